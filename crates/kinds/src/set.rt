@@ -1,0 +1,11 @@
+// A set of numbers from 0 to 255.
+ghost use Rattle.kinds.specs.Levels.{Bounded};
+
+pub mod as_kind;
+
+// Member m is bit m of the four words, so a set has 32 bytes and is joined by four instructions.
+#[derive(Clone, Copy)]
+pub struct Set {
+    words: [u64; 4],
+    ghost ok: { Bounded 4 18446744073709551615 words },
+}

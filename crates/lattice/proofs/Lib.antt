@@ -1,0 +1,6 @@
+pub mod Order
+pub mod Parts
+pub mod Core
+pub mod Differences
+pub mod Simples
+pub mod Wraps
