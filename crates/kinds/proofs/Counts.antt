@@ -1,9 +1,7 @@
 -- The counter is a simple kind. Assumes nothing.
 use mathlib.Core.Path.{_≡_}
 use mathlib.Core.HLevel.{isProp→PathP}
-use Prim.Native.Nat.{ℕ, _<_}
 use lib.Dec.{lit<}
-use lib.ListN.{getD}
 use Rattle.lattice.specs.Laws.{Laws}
 use Rattle.lattice.specs.Simple.{Shaped}
 use Rattle.lattice.proofs.Simples.{simple-laws}

@@ -1,28 +1,19 @@
 -- The pair of two kinds keeps the laws. Assumes nothing.
 use mathlib.Core.Path.{_≡_, refl, sym, ap, ap₂, subst, _∙_}
-use mathlib.Core.Bool.{Bool, true, false, cond, _&&_}
+use mathlib.Core.Bool.{Bool, true, false, cond}
 use mathlib.Core.Logic.{_⊎_, inl, inr, ⊎-elim}
-use Prim.Native.Nat.{ℕ, zero, suc, _+_, _-_, _<_, _≤_}
+use Prim.Native.Nat.{ℕ, _+_, _-_, _<_, _≤_}
 use native.Mathlib.Omega.{arith}
 use lib.Dec.{ltb}
 use Rattle.std.specs.declared.option.Option.the-variants.{None, Some}
-use Rattle.std.proofs.shelf.Tests.{and-parts, and-from, and-left, and-right, cases-lt, cases-bool, lt-ltb, le-ltb, ltb-true, both-ways, cond-true, cond-false}
+use Rattle.std.proofs.shelf.Tests.{and-parts, and-from, and-left, and-right, cases-lt, lt-ltb, le-ltb, ltb-true, cond-true, cond-false}
 use Rattle.kinds.specs.declared.pair.Pair.{Pair}
 use Rattle.lattice.specs.Laws.{Laws, Lattice, Levels}
 use Rattle.lattice.specs.Ops.{Ops}
 use Rattle.kinds.specs.Pairs.{on-left, on-right, pair-ops}
-use Rattle.lattice.proofs.Core.{Core, laws-from}
+use Rattle.lattice.proofs.Core.{laws-from}
 use Rattle.lattice.proofs.Order.{join-bottom}
-use Rattle.lattice.proofs.Parts.{part-under, whole-under}
-
--- no part is under the bottom
-pub part-not-bottom : {K : Type 0} (o : Ops K) (L : Laws o) (s l : ℕ) → o .admits s l ≡ true → o .under (o .part s l) (o .bottom) ≡ false
-part-not-bottom o L s l a = ⊎-elim
-    (λ (u : o .under (o .part s l) (o .bottom) ≡ true).
-    let e = L .lattice .antisym (o .part s l) (o .bottom) u (L .lattice .bottom-under (o .part s l)) in
-    absurd (omega (arith, L .levels .part-level s l a, L .levels .admits-level s l a .0, L .levels .bottom-level s, ap (λ w. o .level w s) e)))
-    (λ (u : o .under (o .part s l) (o .bottom) ≡ false). u)
-    (cases-bool (o .under (o .part s l) (o .bottom)))
+use Rattle.lattice.proofs.Parts.{part-under, part-not-bottom, whole-under}
 
 -- which way a slot that is found on the left went
 pub found-left : (s n k : ℕ) → None ≡ cond (ltb s n) None (Some k) → s < n

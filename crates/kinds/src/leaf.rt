@@ -6,7 +6,7 @@ ghost use Rattle.kinds.specs.Leaf.{leaf, member};
 use lattice::fault::KindFault;
 
 // Refuses an actor of 8 or more, then a place other than 0: for a kind that has no places of its own.
-pub fn check_leaf(actor: u8, place: u16) -> Result<(), KindFault>
+pub(crate) fn check_leaf(actor: u8, place: u16) -> Result<(), KindFault>
     ensures { λ r. ⌜ numbered r ≡ leaf actor place (Ok tt) ⌝ }
 {
     if actor >= 8 {
@@ -19,7 +19,7 @@ pub fn check_leaf(actor: u8, place: u16) -> Result<(), KindFault>
 }
 
 // The member that an amount names.
-pub fn named_member(amount: u32) -> Result<u8, KindFault>
+pub(crate) fn named_member(amount: u32) -> Result<u8, KindFault>
     ensures { λ r. ⌜ numbered r ≡ member amount (Ok amount) ⌝ }
 {
     if amount > 255 {

@@ -7,7 +7,7 @@ use Prim.Native.Nat.{ℕ, _+_, _<_, _≤_}
 use native.Mathlib.Omega.{arith}
 use Rattle.std.specs.shelf.Lists.{All}
 use Rattle.std.proofs.shelf.Lists.{append-nil}
-use Rattle.std.proofs.shelf.Tests.{and-parts, both-ways, cond-true, cond-false}
+use Rattle.std.proofs.shelf.Tests.{and-parts, both-ways, cond-true}
 use Rattle.lattice.specs.Laws.{Laws, Lattice}
 use Rattle.lattice.specs.Least.{Least}
 use Rattle.lattice.specs.Ops.{Ops, alone, parts-at, parts-below, parts, joined, beyond, difference}

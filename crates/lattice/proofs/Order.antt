@@ -1,6 +1,6 @@
 -- What the laws give of joins. Assumes nothing.
-use mathlib.Core.Path.{_≡_, sym, ap, subst, _∙_}
-use mathlib.Core.Bool.{Bool, true, false}
+use mathlib.Core.Path.{_≡_, subst, _∙_}
+use mathlib.Core.Bool.{true}
 use Rattle.lattice.specs.Laws.{Lattice}
 use Rattle.lattice.specs.Ops.{Ops}
 

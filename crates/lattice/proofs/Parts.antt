@@ -1,15 +1,17 @@
 -- The list of a value's parts, and joins of listed parts. Assumes nothing.
 use mathlib.Core.Path.{_≡_, refl, sym, ap, subst, _∙_}
-use mathlib.Core.Bool.{true}
+use mathlib.Core.Bool.{true, false}
 use mathlib.Core.List.{List, [], _∷_, _++_}
 use mathlib.Core.Logic.{⊎-elim}
-use Prim.Native.Nat.{ℕ, zero, suc, _+_, _<_, _≤_}
+use Prim.Native.Nat.{ℕ, zero, suc, _+_, _-_, _<_, _≤_}
+use native.Mathlib.Nat.{add-zero, add-suc}
 use native.Mathlib.Numerals.{add-one}
 use native.Mathlib.Omega.{arith}
 use lib.ListN.{length, length-append}
 use Rattle.std.specs.shelf.Lists.{All}
 use Rattle.std.proofs.shelf.Elements.{all-append}
-use Rattle.std.proofs.shelf.Tests.{cases-order}
+use Rattle.std.proofs.shelf.Lists.{append-nil, length-push}
+use Rattle.std.proofs.shelf.Tests.{cases-order, cases-bool}
 use Rattle.lattice.specs.Laws.{Laws, Lattice}
 use Rattle.lattice.specs.Ops.{Ops, alone, parts-at, parts-below, parts, joined}
 use Rattle.lattice.specs.declared.part.Part.{Part}
@@ -27,29 +29,54 @@ all-right P [] ys h = h
 all-right P (x ∷ xs) ys h = all-right P xs ys (h .1)
 
 module _ {K : Type 0} (o : Ops K) where
-  pub at-none : (s l : ℕ) → l ≡ 0 → parts-at o s l ≡ []
+  pub at-none : (s l : ℕ) → l ≤ 0 → parts-at o s l ≡ []
   unfolding parts-at
-  at-none s l e = ap (parts-at o s) e
+  at-none s zero h = refl
+  at-none s (suc l) h = absurd (omega arith)
 
   pub at-one : (s l : ℕ) → 0 < l → parts-at o s l ≡ part-of s l ∷ []
   unfolding parts-at
   at-one s zero h = absurd (omega arith)
   at-one s (suc l) h = refl
 
-  -- one slot more
+  -- one slot more, and the same for a level l that was read there
   pub parts-more : (x : K) (n : ℕ) → parts-below o x (n + 1) ≡ parts-below o x n ++ parts-at o n (o .level x n)
   unfolding parts-below
   parts-more x n = rw add-one
 
+  pub below-none : (x : K) (n l : ℕ) → l ≡ o .level x n → l ≤ 0 → parts-below o x (n + 1) ≡ parts-below o x n
+  below-none x n l e z =
+      parts-more x n ∙ ap (λ (ps : List Part). parts-below o x n ++ ps) (at-none n (o .level x n) (omega arith)) ∙ append-nil (parts-below o x n)
+
+  pub below-one : (x : K) (n l : ℕ) → l ≡ o .level x n → 0 < l → parts-below o x (n + 1) ≡ parts-below o x n ++ part-of n l ∷ []
+  below-one x n l e p =
+      parts-more x n ∙ ap (λ (ps : List Part). parts-below o x n ++ ps) (at-one n (o .level x n) (omega arith) ∙ ap (λ (k : ℕ). part-of n k ∷ []) (sym e))
+
   pub count-none : (x : K) (n l : ℕ) → l ≡ o .level x n → l ≤ 0 → length (parts-below o x (n + 1)) ≡ length (parts-below o x n)
-  count-none x n l e z =
-      let f = ap length (parts-more x n ∙ ap (λ (ps : List Part). parts-below o x n ++ ps) (at-none n (o .level x n) (omega arith))) in
-      omega (arith, simp length-append at f)
+  count-none x n l e z = ap length (below-none x n l e z)
 
   pub count-one : (x : K) (n l : ℕ) → l ≡ o .level x n → 0 < l → length (parts-below o x (n + 1)) ≡ length (parts-below o x n) + 1
-  count-one x n l e p =
-      let f = ap length (parts-more x n ∙ ap (λ (ps : List Part). parts-below o x n ++ ps) (at-one n (o .level x n) (omega arith))) in
-      omega (arith, simp length-append at f)
+  count-one x n l e p = ap length (below-one x n l e p) ∙ length-push (parts-below o x n) (part-of n l)
+
+  -- there are no more parts than slots, and no fewer below a higher slot
+  pub below-length : (x : K) (n : ℕ) → length (parts-below o x n) ≤ n
+  unfolding parts-below parts-at
+  below-length x zero = omega arith
+  below-length x (suc n) = go (o .level x n) (below-length x n)
+    where
+      go : (l : ℕ) → length (parts-below o x n) ≤ n → length (parts-below o x n ++ parts-at o n l) ≤ suc n
+      go zero h = simp append-nil (omega arith)
+      go (suc l) h = simp length-append (omega arith)
+
+  below-grows : (x : K) (n k : ℕ) → length (parts-below o x n) ≤ length (parts-below o x (n + k))
+  unfolding parts-below
+  below-grows x n zero = simp add-zero (omega arith)
+  below-grows x n (suc k) = rw add-suc (simp length-append (omega (arith, below-grows x n k)))
+
+  pub below-room : (x : K) (n : ℕ) → n ≤ o .width → length (parts-below o x n) ≤ length (parts o x)
+  below-room x n h =
+      let e : n + (o .width - n) ≡ o .width = omega arith in
+      subst (λ (m : ℕ). length (parts-below o x n) ≤ length (parts-below o x m)) e (below-grows x n (o .width - n))
 
   -- what holds of each part holds of the list of the parts, and back
   pub parts-all : (P : Part → Type 0) (x : K) (n : ℕ) → ((s : ℕ) → s < n → 0 < o .level x s → P (part-of s (o .level x s))) → All P (parts-below o x n)
@@ -110,3 +137,12 @@ module _ {K : Type 0} (o : Ops K) where
     whole-under x z h =
         subst (λ (w : K). o .under w z ≡ true) (L .whole x)
         (joined-least (L .lattice) (parts o x) z (parts-all (λ p. o .under (alone o p) z ≡ true) x (o .width) h))
+
+    -- no part is under the bottom
+    pub part-not-bottom : (s l : ℕ) → o .admits s l ≡ true → o .under (o .part s l) (o .bottom) ≡ false
+    part-not-bottom s l a = ⊎-elim
+        (λ (u : o .under (o .part s l) (o .bottom) ≡ true).
+        let e = L .lattice .antisym (o .part s l) (o .bottom) u (L .lattice .bottom-under (o .part s l)) in
+        absurd (omega (arith, L .levels .part-level s l a, L .levels .admits-level s l a .0, L .levels .bottom-level s, ap (λ (w : K). o .level w s) e)))
+        (λ (u : o .under (o .part s l) (o .bottom) ≡ false). u)
+        (cases-bool (o .under (o .part s l) (o .bottom)))

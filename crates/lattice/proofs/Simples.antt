@@ -2,7 +2,7 @@
 use mathlib.Core.Path.{_≡_, refl, sym, ap, subst, _∙_}
 use mathlib.Core.Bool.{Bool, true, false, cond, _&&_}
 use mathlib.Core.Logic.{_⊎_, inl, inr, ⊎-elim}
-use Prim.Native.Nat.{ℕ, zero, suc, max, min, _+_, _<_, _≤_}
+use Prim.Native.Nat.{ℕ, zero, suc, max, _<_, _≤_}
 use native.Mathlib.Omega.{arith}
 use lib.Dec.{ltb, leb, eqb}
 use Rattle.std.specs.declared.result.Result.{Result}
@@ -10,8 +10,8 @@ use Rattle.std.proofs.shelf.Tests.{and-parts, and-from, and-left, cases-order, 
 use Rattle.lattice.specs.declared.part.Act.{Act}
 use Rattle.lattice.specs.Laws.{Laws, Lattice, Levels}
 use Rattle.lattice.specs.Ops.{Ops}
-use Rattle.lattice.specs.Simple.{all-below, Shape, Shaped, simple-bottom, simple-part, simple-ops}
-use Rattle.lattice.proofs.Core.{Core, laws-from}
+use Rattle.lattice.specs.Simple.{all-below, Shape, Shaped, simple-ops}
+use Rattle.lattice.proofs.Core.{laws-from}
 
 pub all-each : (f : ℕ → Bool) (n : ℕ) → all-below f n ≡ true → (s : ℕ) → s < n → f s ≡ true
 unfolding all-below

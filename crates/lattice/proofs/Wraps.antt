@@ -8,7 +8,7 @@ use Rattle.lattice.specs.declared.part.Act.{Act}
 use Rattle.lattice.specs.Laws.{Laws, Lattice, Levels}
 use Rattle.lattice.specs.Ops.{Ops}
 use Rattle.lattice.specs.Wrapped.{wrapped-ops}
-use Rattle.lattice.proofs.Core.{Core, laws-from}
+use Rattle.lattice.proofs.Core.{laws-from}
 use Rattle.lattice.proofs.Parts.{part-under, whole-under}
 
 module _ {K W : Type 0} (o : Ops K) (inner : W → K) (outer : K → W) (effect : W → ℕ → Act → Result W ℕ)

@@ -1,1 +1,1 @@
-pub mod Meets
+pub mod Carries

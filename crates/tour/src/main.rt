@@ -1,8 +1,14 @@
 // One real task from beginning to end: two stores keep one stock record, are out of touch for a while, and meet again.
-mod exchange;
+mod by_hand;
+mod carry;
+mod hex;
 mod site;
 
-use exchange::exchange;
+use by_hand::mend;
+use carry::Carried;
+use carry::bring_level;
+use hex::Hex;
+use hex::HexDisplay;
 use kinds::counter::as_kind::CounterKind;
 use kinds::pair::PairKind;
 use kinds::set::as_kind::SetKind;
@@ -13,7 +19,11 @@ use lattice::show::ShownDisplay;
 use lattice::walks::count_parts;
 use lattice::walks::equal;
 use site::Site;
+use site::Stock;
 use std::error::AnyError;
+use wire::fault::WireFaultDisplay;
+use wire::read::read;
+use wire::write::LONGEST;
 
 fn main(rt: LibcRuntime) -> Result<(), AnyError> {
     rt.report(tour(&rt))
@@ -41,23 +51,38 @@ fn tour(rt: &LibcRuntime) -> Result<(), AnyError> {
         rt,
         "\n2. The line is down, and each store goes on by itself."
     )?;
+    apart(rt, &mut north, &mut south)?;
+    println!(rt, "\n3. The line is up again.")?;
+    meet(rt, &mut north, &mut south)?;
+    println!(
+        rt,
+        "\n4. An engineer puts a datagram together by hand, for articles 50 and 51 at South."
+    )?;
+    mend(rt, &mut south)?;
+    meet(rt, &mut north, &mut south)
+}
+
+fn apart(rt: &LibcRuntime, north: &mut Site, south: &mut Site) -> Result<(), AnyError> {
     north.receive(rt, 5)?;
     north.shelve(rt, 40)?;
     south.receive(rt, 3)?;
     south.shelve(rt, 4)?;
     south.shelve(rt, 41)?;
     south.shelve(rt, 300)?;
-    println!(rt, "\n3. The line is up again.")?;
-    meet(rt, &mut north, &mut south)
+    Ok(())
 }
 
 // Brings two sites level: each works out what the other lacks, and only that goes over.
 fn meet(rt: &LibcRuntime, north: &mut Site, south: &mut Site) -> Result<(), AnyError> {
+    let mut out = [0u8; LONGEST];
+    let mut back = [0u8; LONGEST];
     let from_north = count_parts(&north.stock)?;
     let from_south = count_parts(&south.stock)?;
-    let lacks = exchange(&mut north.stock, &mut south.stock)?;
-    lacking(rt, "South", "North", &lacks.of_mine, from_north)?;
-    lacking(rt, "North", "South", &lacks.of_theirs, from_south)?;
+    let (sent, heard) = bring_level(&mut north.stock, &mut south.stock, &mut out, &mut back)?;
+    lacked(rt, "South", "North", &sent, from_north)?;
+    went(rt, &out, sent.len)?;
+    lacked(rt, "North", "South", &heard, from_south)?;
+    went(rt, &back, heard.len)?;
     north.show(rt)?;
     south.show(rt)?;
     let word = if equal(&north.stock, &south.stock) {
@@ -69,18 +94,34 @@ fn meet(rt: &LibcRuntime, north: &mut Site, south: &mut Site) -> Result<(), AnyE
     Ok(())
 }
 
-fn lacking(
+fn lacked<K: Kind>(
     rt: &LibcRuntime,
     to: &str,
     from: &str,
-    part: &impl Kind,
+    carried: &Carried<K>,
     whole: u16,
 ) -> Result<(), AnyError> {
-    let sent = count_parts(part)?;
+    let sent = count_parts(&carried.value)?;
     println!(
         rt,
         "   {to} lacks {sent} of {from}'s {whole} parts: {}",
-        Shown(part)
+        Shown(&carried.value)
     )?;
+    Ok(())
+}
+
+// Shows a datagram, and what comes of a copy of it that was damaged on the way.
+fn went(rt: &LibcRuntime, buf: &[u8; LONGEST], len: usize) -> Result<(), AnyError> {
+    let len = len.min(LONGEST);
+    println!(rt, "      {len} bytes: {}", Hex(&buf[0..len]))?;
+    let mut copy = *buf;
+    copy[2] ^= 4;
+    if let Err(fault) = read::<Stock>(&copy[0..len]) {
+        let number = fault.number();
+        println!(
+            rt,
+            "      a copy with one bit turned: refused by {number}, {fault}"
+        )?;
+    }
     Ok(())
 }

@@ -16,6 +16,9 @@ use Rattle.kinds.specs.declared.counter.Counter.{Counter}
 use Rattle.kinds.specs.declared.four.Four.{Four}
 use Rattle.kinds.specs.declared.pair.Pair.{Pair}
 use Rattle.kinds.specs.declared.set.Set.{Set}
+use Rattle.wire.specs.Datagrams.{written}
+use Rattle.wire.specs.declared.datagram.Datagram.the-variants.{Delta as delta, Ack as ack}
+use Rattle.wire.specs.declared.datagram.Header.{Header}
 
 -- a level at a slot
 abbrev pub at : ℕ → ℕ → Part
@@ -31,6 +34,10 @@ both = pair-ops counter-ops set-ops
 abbrev pub four-sets : Ops (Four Set)
 four-sets = four-ops set-ops
 
+-- from, to and number
+abbrev pub header : ℕ → ℕ → ℕ → Header
+header from to number = record { from = from; to = to; number = number }
+
 -- a counter whose first replica has counted to n
 abbrev pub counted : ℕ → Counter
 counted n = counter-ops .part 0 n
@@ -40,6 +47,10 @@ pub record Worked-values : Type 0 where
   pub lacks-one : difference counter-ops (joined counter-ops (at 0 5 ∷ at 1 3 ∷ [])) (joined counter-ops (at 0 5 ∷ at 1 2 ∷ [])) ≡ joined counter-ops (at 1 3 ∷ [])
   -- counter {0:4} from {0:5} differs by bottom
   pub lacks-none : difference counter-ops (counted 4) (counted 5) ≡ counter-ops .bottom
+  -- a delta 0 to 1, number 1, of part 0:5, and an acknowledgement 1 to 0, number 1, as bytes
+  pub delta-is : written counter-ops (delta (header 0 1 1) (counted 5))
+      ≡ 0x16 ∷ 0 ∷ 1 ∷ 0 ∷ 0 ∷ 1 ∷ 1 ∷ 0 ∷ 0 ∷ 0 ∷ 1 ∷ 0 ∷ 0 ∷ 0 ∷ 5 ∷ 0 ∷ 0 ∷ 0 ∷ 0 ∷ 0 ∷ 0 ∷ 0 ∷ []
+  pub ack-is : written counter-ops (ack (header 1 0 1)) ≡ 0x0A ∷ 0 ∷ 2 ∷ 0 ∷ 1 ∷ 0 ∷ 1 ∷ 0 ∷ 0 ∷ 0 ∷ []
   -- in a pair of a counter and a set, place 1, verb 1, amount 4 acts on slot 12, whatever is held
   pub acts-right : (x : Pair Counter Set) → both .effect x 0 (act 1 1 4) ≡ Ok (both .part 12 1)
   -- removed 9 joined with added 9: 9 is absent

@@ -1,5 +1,4 @@
 // The set as a kind: a slot of level 1 for each member, joined by union.
-ghost use lib.Dec.{eqb};
 ghost use mathlib.Core.Path.{_≡_};
 ghost use Prim.Native.Nat.{_*_, _<_, _≤_};
 ghost use Rattle.kinds.specs.Bits.{row-bit};

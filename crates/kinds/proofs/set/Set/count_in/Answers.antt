@@ -1,9 +1,7 @@
 use native.Mathlib.Omega.{arith}
-use mathlib.Core.Path.{_≡_, ap, _∙_}
 use lib.Count.{ones, ones-le}
 use lib.ListN.{getD}
-use Prim.Native.Nat.{_*_, _≤_}
-use Rattle.kinds.specs.Bits.{row-bit}
+use Prim.Native.Nat.{_≤_}
 use Rattle.kinds.specs.Levels.{sum-below}
 use Rattle.kinds.proofs.Words.{row-step}
 use Rattle.kinds.proofs.set.Set.count_in.Needs as need

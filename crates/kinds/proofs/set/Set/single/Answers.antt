@@ -1,11 +1,8 @@
 use native.Mathlib.Omega.{arith}
-use mathlib.Core.Logic.{⊎-elim}
-use mathlib.Core.Path.{_≡_, refl, sym, ap, _∙_}
-use Prim.Native.Nat.{ℕ, _*_, _/_, _%_, _^_}
-use lib.ListN.{replicate, getD-replicate}
+use mathlib.Core.Path.{_≡_}
+use Prim.Native.Nat.{ℕ, _*_, _%_, _^_}
 use Rattle.std.proofs.shelf.Bits.{one-shl}
 use Rattle.lattice.proofs.Simples.{part-is}
-use Rattle.kinds.specs.Bits.{bit}
 use Rattle.kinds.specs.Sets.{set-shape, set-effect}
 use Rattle.kinds.proofs.Members.{set-shaped}
 use Rattle.kinds.proofs.Words.{single-same, single-other}

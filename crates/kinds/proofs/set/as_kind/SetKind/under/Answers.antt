@@ -1,9 +1,6 @@
 use native.Mathlib.Omega.{arith}
-use mathlib.Core.Path.{_≡_, ap}
-use Prim.Native.Nat.{ℕ, _/_, _%_}
-use lib.Bits.{bitOr}
+use Prim.Native.Nat.{_/_, _%_}
 use lib.ListN.{getD}
-use Rattle.std.proofs.shelf.Tests.{eqb-false}
 use Rattle.lattice.proofs.Simples.{under-false, under-true}
 use Rattle.kinds.specs.Sets.{set-shape, set-effect}
 use Rattle.kinds.proofs.Members.{set-shaped}

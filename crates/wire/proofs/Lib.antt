@@ -1,0 +1,14 @@
+pub mod Little
+pub mod Over
+pub mod Lists
+pub mod Turns
+pub mod Good
+pub mod Back
+pub mod Once
+pub mod Whole
+pub mod Opened
+pub mod Parting
+pub mod Adding
+pub mod Grows
+pub mod Coherent
+pub mod Room
