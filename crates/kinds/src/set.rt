@@ -3,7 +3,7 @@ ghost use Rattle.kinds.specs.Levels.{Bounded};
 
 pub mod as_kind;
 
-// Member m is bit m of the four words, so a set has 32 bytes and is joined by four instructions.
+// Member m is bit m of the four words, so a set has 32 bytes and is joined word by word.
 #[derive(Clone, Copy)]
 pub struct Set {
     words: [u64; 4],

@@ -15,7 +15,7 @@ use crate::part::Part;
 // More slots than this are never walked: one walk, and with it every call above, stays short.
 const MOST_SLOTS: u32 = 1024;
 
-// Refuses a kind whose slots are too many to be walked. The compiler knows the answer, so the test costs nothing.
+// Refuses a kind whose slots are too many to be walked. The answer depends on the kind alone.
 pub fn walkable<K: Kind>() -> Result<(), KindFault>
     ensures { λ r. ⌜ numbered r ≡ walked ops (Ok tt) ⌝ }
 {
