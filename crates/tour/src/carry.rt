@@ -1,6 +1,6 @@
 // How what one replica lacks goes over as bytes.
 ghost use mathlib.Core.Path.{_≡_};
-ghost use Rattle.std.specs.Vec.{made};
+ghost use Rattle.std.specs.Vec.{made, refused};
 use lattice::fault::KindFaultError;
 use lattice::kind::Kind;
 use lattice::walks::difference;
@@ -18,14 +18,15 @@ pub struct Carried<K> {
     pub len: usize,
 }
 
-// Brings `there` up to `here` by one datagram through `buf`: afterwards it holds the join of both.
+// Brings `there` up to `here` by one datagram through `buf`: afterwards it holds the join of both. A refusal leaves it alone.
 pub fn carry<K: Kind>(
     header: Header,
     here: &K,
     there: &mut K,
     buf: &mut [u8],
 ) -> Result<Carried<K>, AnyError>
-    ensures { λ r. ⌜ made r (λ _. now (there .exit) ≡ ops .join (now (here .entry)) (now (there .entry))) ⌝ }
+    ensures joined { λ r. ⌜ made r (λ _. now (there .exit) ≡ ops .join (now (here .entry)) (now (there .entry))) ⌝ }
+    ensures kept { λ r. ⌜ refused r (λ _. now (there .exit) ≡ now (there .entry)) ⌝ }
 {
     let value = difference(here, there)?;
     let len = write_delta(header, &value, buf)?;

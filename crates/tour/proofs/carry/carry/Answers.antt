@@ -15,10 +15,13 @@ returns g c =
     let n = c .in-Continue-len .len in
     let buf = c .write-delta .last .buf in
     let got = c .in-Continue-datagram .datagram in
-    elim (c .match-datagram .came) [
-      | in-Delta w ↦ w .there-is ∙ arrives-delta o here there d (c .args .header) (take n buf) (take (n - 0) buf) got (front-is buf n) (c .in-Continue-len .ensures tt .back)
-          (c .in-Continue-datagram .ensures tt .answer) (g .K·Kind·met .ordered) _ (w .in-Delta .received) (w .join .last .self) (w .in-Delta .is)
-          (c .in-Continue-value .ensures tt .least) (w .join .ensures)
-      | in-Ack w ↦ absurd (arrives-ack o here there d (c .args .header) (take n buf) (take (n - 0) buf) got (front-is buf n) (c .in-Continue-len .ensures tt .back)
-          (c .in-Continue-datagram .ensures tt .answer) _ (w .in-Ack .is))
-    ]
+    record {
+      kept = tt;
+      joined = elim (c .match-datagram .came) [
+        | in-Delta w ↦ w .there-is ∙ arrives-delta o here there d (c .args .header) (take n buf) (take (n - 0) buf) got (front-is buf n) (c .in-Continue-len .ensures tt .back)
+            (c .in-Continue-datagram .ensures tt .answer) (g .K·Kind·met .ordered) _ (w .in-Delta .received) (w .join .last .self) (w .in-Delta .is)
+            (c .in-Continue-value .ensures tt .least) (w .join .ensures)
+        | in-Ack w ↦ absurd (arrives-ack o here there d (c .args .header) (take n buf) (take (n - 0) buf) got (front-is buf n) (c .in-Continue-len .ensures tt .back)
+            (c .in-Continue-datagram .ensures tt .answer) _ (w .in-Ack .is))
+      ];
+    }
