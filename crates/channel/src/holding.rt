@@ -41,7 +41,7 @@ impl<C: Channel> Holding<C> {
         ensures pattern { result.pattern ≡ pattern }
         ensures empty { held result ≡ None }
         ensures below { result.below ≡ below }
-        ensures waiting { holding_waits C.Channel.waits result ≡ C.Channel.waits below }
+        ensures waiting { holding_waits C.waits result ≡ C.waits below }
     {
         Holding {
             pattern,
@@ -54,7 +54,7 @@ impl<C: Channel> Holding<C> {
     // Puts the held datagram below; it stays held if that is refused.
     fn release(&mut self)
         ensures pattern { self.new.pattern ≡ self.old.pattern }
-        ensures after { Releases C.Channel.denies C.Channel.puts (held self.old) self.old.below (held self.new) self.new.below }
+        ensures after { Releases C.denies C.puts (held self.old) self.old.below (held self.new) self.new.below }
     {
         if let Held::One { receiver, len } = &self.held {
             let bytes = &self.bytes[..(*len).min(LONGEST)];
@@ -66,17 +66,17 @@ impl<C: Channel> Holding<C> {
 }
 
 impl<C: Channel> Channel for Holding<C> {
-    ghost waits = { holding_waits C.Channel.waits };
+    ghost waits = { holding_waits C.waits };
 
-    ghost ready = { holding_ready C.Channel.ready };
+    ghost ready = { holding_ready C.ready };
 
-    ghost denies = { holding_denies C.Channel.denies };
+    ghost denies = { holding_denies C.denies };
 
-    ghost puts = { HoldingPuts C.Channel.denies C.Channel.puts };
+    ghost puts = { HoldingPuts C.denies C.puts };
 
-    ghost takes = { HoldingTakes C.Channel.ready C.Channel.takes };
+    ghost takes = { HoldingTakes C.ready C.takes };
 
-    ghost sound = { holding_laws C.Channel.denies C.Channel.sound };
+    ghost sound = { holding_laws C.denies C.sound };
 
     fn put(&mut self, receiver: u8, bytes: &[u8]) -> Result<(), ChannelFault> {
         let len = bytes.len();

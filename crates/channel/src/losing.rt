@@ -18,24 +18,24 @@ impl<C: Channel> Losing<C> {
     // A layer over a channel. What waits is what waits below: nothing, if nothing does.
     pub fn new(pattern: u32, below: C) -> Losing<C>
         ensures made { result ≡ record { pattern = pattern; below = below } }
-        ensures waiting { losing_waits C.Channel.waits result ≡ C.Channel.waits below }
+        ensures waiting { losing_waits C.waits result ≡ C.waits below }
     {
         Losing { pattern, below }
     }
 }
 
 impl<C: Channel> Channel for Losing<C> {
-    ghost waits = { losing_waits C.Channel.waits };
+    ghost waits = { losing_waits C.waits };
 
-    ghost ready = { losing_ready C.Channel.ready };
+    ghost ready = { losing_ready C.ready };
 
-    ghost denies = { losing_denies C.Channel.denies };
+    ghost denies = { losing_denies C.denies };
 
-    ghost puts = { LosingPuts C.Channel.puts };
+    ghost puts = { LosingPuts C.puts };
 
-    ghost takes = { LosingTakes C.Channel.takes };
+    ghost takes = { LosingTakes C.takes };
 
-    ghost sound = { losing_laws C.Channel.sound };
+    ghost sound = { losing_laws C.sound };
 
     fn put(&mut self, receiver: u8, bytes: &[u8]) -> Result<(), ChannelFault> {
         admit(receiver, bytes.len())?;

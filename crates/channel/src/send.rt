@@ -74,8 +74,8 @@ pub fn send<K: Kind, C: Channel>(
     bytes: &[u8],
     channel: &mut C,
 ) -> Result<(), SendFault>
-    ensures answer { told result ≡ sending (checking K.Kind.ops sealed.now bytes.now) (put_answer sealed.now.header.to bytes.now (C.Channel.denies channel.old sealed.now.header.to bytes.now)) }
-    ensures after { PutLeaves C.Channel.puts channel.old sealed.now.header.to bytes.now channel.new result }
+    ensures answer { told result ≡ sending (checking K.ops sealed.now bytes.now) (put_answer sealed.now.header.to bytes.now (C.denies channel.old sealed.now.header.to bytes.now)) }
+    ensures after { PutLeaves C.puts channel.old sealed.now.header.to bytes.now channel.new result }
 {
     sealed.check::<K>(bytes)?;
     channel.put(sealed.header().to, bytes)?;

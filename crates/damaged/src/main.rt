@@ -1,5 +1,7 @@
 // Tries the reading of datagrams on damaged ones: bytes changed, cut off, appended and put out of order. Each trial
 // prints a line, and tools/damaged.py works out from the format alone what the lines must be.
+#![tactic(auto)]
+
 mod damage;
 mod sample;
 mod trials;

@@ -18,8 +18,8 @@ pub struct Four<K> {
 impl<K: Kind> Four<K> {
     // The value at a key, of which there are four.
     pub fn get(&self, key: u8) -> Option<&K>
-        ensures answer { option_map (λ x. x.now) result ≡ (if nat_lt key 4 then Some (at_key K.Kind.ops self.now key) else None) }
-        ensures slots { Keyed K.Kind.ops self.now key }
+        ensures answer { option_map (λ x. x.now) result ≡ (if nat_lt key 4 then Some (at_key K.ops self.now key) else None) }
+        ensures slots { Keyed K.ops self.now key }
     {
         if key < 4 {
             Some(self.at_key(u16::from(key)))
@@ -29,7 +29,7 @@ impl<K: Kind> Four<K> {
     }
 
     fn at_key(&self, key: u16) -> &K
-        ensures { result.now ≡ at_key K.Kind.ops self.now key }
+        ensures { result.now ≡ at_key K.ops self.now key }
     {
         match key {
             0 => &self.keys.left.left,
@@ -41,7 +41,7 @@ impl<K: Kind> Four<K> {
 
     // The value at one key, with bottom at the others.
     fn on_key(key: u16, value: K) -> Four<K>
-        ensures { result ≡ on_key K.Kind.ops key value }
+        ensures { result ≡ on_key K.ops key value }
     {
         let mut four = Self::bottom();
         match key {
@@ -55,11 +55,11 @@ impl<K: Kind> Four<K> {
 }
 
 impl<K: Kind> Kind for Four<K> {
-    ghost ops = { four_ops K.Kind.ops };
+    ghost ops = { four_ops K.ops };
 
-    ghost ordered = { four_lattice K.Kind.ops K.Kind.ordered };
+    ghost ordered = { four_lattice K.ops K.ordered };
 
-    ghost lawful = { λ u. four_laws K.Kind.ops (K.Kind.lawful (omega arith)) };
+    ghost lawful = { λ u. four_laws K.ops (K.lawful (omega arith)) };
 
     fn width() -> u32 {
         Pair::<Pair<K, K>, Pair<K, K>>::width()

@@ -1,4 +1,6 @@
 // The kinds of value to be had: counter, set, pair, four and two-phase set.
+#![tactic(auto)]
+
 pub mod counter;
 pub mod four;
 mod leaf;

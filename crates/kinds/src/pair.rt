@@ -16,7 +16,7 @@ pub struct Pair<A, B> {
 
 // The slot as the right side numbers it, or none where it is the left side's.
 fn right_slot<A: Kind>(slot: u16) -> Option<u16>
-    ensures { result ≡ (if nat_lt slot A.Kind.ops.width then None else Some (slot - A.Kind.ops.width)) }
+    ensures { result ≡ (if nat_lt slot A.ops.width then None else Some (slot - A.ops.width)) }
 {
     let width = A::width();
     if u32::from(slot) < width {
@@ -27,11 +27,11 @@ fn right_slot<A: Kind>(slot: u16) -> Option<u16>
 }
 
 impl<A: Kind, B: Kind> Kind for Pair<A, B> {
-    ghost ops = { pair_ops A.Kind.ops B.Kind.ops };
+    ghost ops = { pair_ops A.ops B.ops };
 
-    ghost ordered = { pair_lattice A.Kind.ops B.Kind.ops A.Kind.ordered B.Kind.ordered };
+    ghost ordered = { pair_lattice A.ops B.ops A.ordered B.ordered };
 
-    ghost lawful = { λ u. pair_laws A.Kind.ops B.Kind.ops (A.Kind.lawful (omega arith)) (B.Kind.lawful (omega arith)) };
+    ghost lawful = { λ u. pair_laws A.ops B.ops (A.lawful (omega arith)) (B.lawful (omega arith)) };
 
     fn width() -> u32 {
         A::width().saturating_add(B::width())

@@ -1,5 +1,7 @@
 // What a replicated value is: the trait `Kind` with the laws that every kind of value keeps, and what follows from
 // those laws alone, written and proved once for all kinds.
+#![tactic(auto)]
+
 pub mod fault;
 pub mod kind;
 pub mod part;

@@ -14,7 +14,7 @@ const MOST_SLOTS: u32 = 1024;
 
 // Refuses a kind whose slots are too many to be walked. The answer depends on the kind alone.
 pub fn walkable<K: Kind>() -> Result<(), KindFault>
-    ensures { numbered result ≡ walked ops (Ok tt) }
+    ensures { numbered result ≡ walked K.ops (Ok tt) }
 {
     if K::width() > MOST_SLOTS {
         return Err(KindFault::Wide);
@@ -31,15 +31,15 @@ pub fn equal<K: Kind>(a: &K, b: &K) -> bool
 
 // How many parts a value has.
 pub fn count_parts<K: Kind>(value: &K) -> Result<u16, KindFault>
-    ensures { numbered result ≡ walked ops (Ok (length (parts ops value.now))) }
+    ensures { numbered result ≡ walked K.ops (Ok (length (parts K.ops value.now))) }
 {
     walkable::<K>()?;
     Ok(parts_of(value))
 }
 
 fn parts_of<K: Kind>(value: &K) -> u16
-    requires { Usable ops }
-    ensures { result ≡ length (parts ops value.now) }
+    requires { Usable K.ops }
+    ensures { result ≡ length (parts K.ops value.now) }
 {
     let mut count = 0;
     for slot in 0..K::width() as u16 {
@@ -53,17 +53,17 @@ fn parts_of<K: Kind>(value: &K) -> u16
 // The difference of a from b: the join of the parts of a that are not under b. It is the least value that joined with
 // b gives the join of a and b, so it is all that a holder of b lacks of a, and no more.
 pub fn difference<K: Kind>(a: &K, b: &K) -> Result<K, KindFault>
-    ensures answer { numbered result ≡ walked ops (Ok (difference ops a.now b.now)) }
-    ensures least { IfOk result (Least ops a.now b.now) }
+    ensures answer { numbered result ≡ walked K.ops (Ok (difference K.ops a.now b.now)) }
+    ensures least { IfOk result (Least K.ops a.now b.now) }
 {
     walkable::<K>()?;
     Ok(lacking(a, b))
 }
 
 fn lacking<K: Kind>(a: &K, b: &K) -> K
-    requires { Usable ops }
-    ensures answer { result ≡ difference ops a.now b.now }
-    ensures least { Least ops a.now b.now result }
+    requires { Usable K.ops }
+    ensures answer { result ≡ difference K.ops a.now b.now }
+    ensures least { Least K.ops a.now b.now result }
 {
     let mut out = K::bottom();
     for slot in 0..K::width() as u16 {
@@ -80,7 +80,7 @@ fn lacking<K: Kind>(a: &K, b: &K) -> K
 
 // For every kind: the difference of any two values is least in this sense.
 pub fn difference_stands<K: Kind>() -> u8
-    ensures { Usable K.Kind.ops → DifferenceLeast K.Kind.ops }
+    ensures { Usable K.ops → DifferenceLeast K.ops }
 {
     0
 }

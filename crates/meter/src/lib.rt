@@ -1,4 +1,6 @@
 // A channel of one's own: a layer over any channel that counts what passes through it.
+#![tactic(auto)]
+
 ghost use Rattle.std.specs.Prelude.{◌≡◌};
 ghost use Rattle.meter.specs.Meter.{MeterPuts, MeterTakes, meter_denies, meter_laws, meter_ready, meter_waits};
 
@@ -17,7 +19,7 @@ impl<C: Channel> Meter<C> {
     // A layer that has counted nothing. What waits is what waits below.
     pub fn new(below: C) -> Meter<C>
         ensures made { result ≡ record { accepted = 0; taken = 0; below = below } }
-        ensures waiting { meter_waits C.Channel.waits result ≡ C.Channel.waits below }
+        ensures waiting { meter_waits C.waits result ≡ C.waits below }
     {
         Meter {
             accepted: 0,
@@ -35,17 +37,17 @@ impl<C: Channel> Meter<C> {
 }
 
 impl<C: Channel> Channel for Meter<C> {
-    ghost waits = { meter_waits C.Channel.waits };
+    ghost waits = { meter_waits C.waits };
 
-    ghost ready = { meter_ready C.Channel.ready };
+    ghost ready = { meter_ready C.ready };
 
-    ghost denies = { meter_denies C.Channel.denies };
+    ghost denies = { meter_denies C.denies };
 
-    ghost puts = { MeterPuts C.Channel.puts };
+    ghost puts = { MeterPuts C.puts };
 
-    ghost takes = { MeterTakes C.Channel.takes };
+    ghost takes = { MeterTakes C.takes };
 
-    ghost sound = { meter_laws C.Channel.sound };
+    ghost sound = { meter_laws C.sound };
 
     fn put(&mut self, receiver: u8, bytes: &[u8]) -> Result<(), ChannelFault> {
         self.below.put(receiver, bytes)?;

@@ -12,8 +12,8 @@ pub fn bridge<C: Channel, D: Channel>(
     receiver: u8,
     buf: &mut [u8],
 ) -> Result<bool, ChannelFault>
-    ensures left { NoneNew (C.Channel.waits from.old) (C.Channel.waits from.new) }
-    ensures right { NoneMadeUp (D.Channel.waits to.old) (C.Channel.waits from.old) (D.Channel.waits to.new) }
+    ensures left { NoneNew (C.waits from.old) (C.waits from.new) }
+    ensures right { NoneMadeUp (D.waits to.old) (C.waits from.old) (D.waits to.new) }
 {
     let Some(len) = from.take(receiver, buf)? else {
         return Ok(false);

@@ -1,4 +1,6 @@
 // Channels in use: code that works over any channel, and tests of every channel and of piles of them.
+#![tactic(auto)]
+
 pub mod bridge;
 #[cfg(test)]
 mod calls;

@@ -21,7 +21,7 @@ pub fn carry<K: Kind>(
     there: &mut K,
     buf: &mut [u8],
 ) -> anyhow::Result<Carried<K>>
-    ensures joined { OnOk result (there.new ≡ ops.join here.now there.old) }
+    ensures joined { OnOk result (there.new ≡ K.ops.join here.now there.old) }
     ensures kept { OnErr result (there.new ≡ there.old) }
 {
     let value = difference(here, there)?;
@@ -42,7 +42,7 @@ pub fn bring_level<K: Kind>(
     back: &mut [u8],
 ) -> anyhow::Result<(Carried<K>, Carried<K>)>
     ensures equal { OnOk result (mine.new ≡ theirs.new) }
-    ensures joined { OnOk result (mine.new ≡ ops.join mine.old theirs.old) }
+    ensures joined { OnOk result (mine.new ≡ K.ops.join mine.old theirs.old) }
 {
     let sent = carry(
         Header {

@@ -1,4 +1,6 @@
 // One real task from beginning to end: two stores keep one stock record, are out of touch for a while, and meet again.
+#![tactic(auto)]
+
 mod by_hand;
 mod carry;
 mod hex;

@@ -54,7 +54,7 @@ impl Error for WireFault {}
 
 // Refuses a kind whose slots are too many to be walked.
 pub(crate) fn check_width<K: Kind>() -> Result<(), WireFault>
-    ensures { numbered result ≡ walked ops (Ok tt) }
+    ensures { numbered result ≡ walked K.ops (Ok tt) }
 {
     match walkable::<K>() {
         Ok(()) => Ok(()),

@@ -1,4 +1,6 @@
 // Datagrams: how values and acknowledgements go over a channel as bytes, and what bytes read as.
+#![tactic(auto)]
+
 mod bytes;
 pub mod datagram;
 pub mod draft;

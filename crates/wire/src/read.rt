@@ -13,15 +13,15 @@ use lattice::part::Part;
 
 // What the bytes read as.
 pub fn read<K: Kind>(bytes: &[u8]) -> Result<Datagram<K>, WireFault>
-    ensures answer { numbered result ≡ reading K.Kind.ops bytes.now }
-    ensures once { IfOk result (λ d. written K.Kind.ops d ≡ bytes.now) }
+    ensures answer { numbered result ≡ reading K.ops bytes.now }
+    ensures once { IfOk result (λ d. written K.ops d ≡ bytes.now) }
 {
     in_two_stages(bytes)
 }
 
 // The first stage: the sort and the header.
 pub fn read_header<K: Kind>(bytes: &[u8]) -> Result<(Sort, Header), WireFault>
-    ensures { numbered result ≡ walked K.Kind.ops (opening bytes.now) }
+    ensures { numbered result ≡ walked K.ops (opening bytes.now) }
 {
     check_width::<K>()?;
     if bytes.len() < 10 {
@@ -44,7 +44,7 @@ pub fn read_body<K: Kind>(
     header: Header,
     bytes: &[u8],
 ) -> Result<Datagram<K>, WireFault>
-    ensures { numbered result ≡ walked K.Kind.ops (body K.Kind.ops bytes.now sort header) }
+    ensures { numbered result ≡ walked K.ops (body K.ops bytes.now sort header) }
 {
     check_width::<K>()?;
     match sort {
@@ -62,8 +62,8 @@ pub fn read_body<K: Kind>(
 }
 
 fn in_two_stages<K: Kind>(bytes: &[u8]) -> Result<Datagram<K>, WireFault>
-    ensures answer { numbered result ≡ reading K.Kind.ops bytes.now }
-    ensures once { IfOk result (λ d. written K.Kind.ops d ≡ bytes.now) }
+    ensures answer { numbered result ≡ reading K.ops bytes.now }
+    ensures once { IfOk result (λ d. written K.ops d ≡ bytes.now) }
 {
     let (sort, header) = read_header::<K>(bytes)?;
     read_body(sort, header, bytes)
@@ -71,8 +71,8 @@ fn in_two_stages<K: Kind>(bytes: &[u8]) -> Result<Datagram<K>, WireFault>
 
 // The value of a delta. One pass over the parts joins them, and one over the slots sees that the join has just these parts.
 fn read_content<K: Kind>(bytes: &[u8]) -> Result<K, WireFault>
-    requires { Usable K.Kind.ops }
-    ensures { numbered result ≡ content K.Kind.ops bytes.now }
+    requires { Usable K.ops }
+    ensures { numbered result ≡ content K.ops bytes.now }
 {
     if bytes.len() < 12 {
         return Err(WireFault::Body);
@@ -104,9 +104,9 @@ fn header_in(bytes: &[u8]) -> Header
 
 // The join of the parts that a delta lists, if their slots rise and each is admitted.
 fn join_listed<K: Kind>(bytes: &[u8], count: u16) -> Option<K>
-    requires narrow { Usable K.Kind.ops }
+    requires narrow { Usable K.ops }
     requires long { length bytes.now ≡ 12 + 10 * count }
-    ensures { result ≡ (if ranged K.Kind.ops 0 (listed count (drop 12 bytes.now)) then Some (joined K.Kind.ops (listed count (drop 12 bytes.now))) else None) }
+    ensures { result ≡ (if ranged K.ops 0 (listed count (drop 12 bytes.now)) then Some (joined K.ops (listed count (drop 12 bytes.now))) else None) }
 {
     let mut value = K::bottom();
     let mut least: u16 = 0;
@@ -127,9 +127,9 @@ fn join_listed<K: Kind>(bytes: &[u8], count: u16) -> Option<K>
 
 // Whether the parts of a value are those that a delta lists.
 fn lists<K: Kind>(value: &K, bytes: &[u8], count: u16) -> bool
-    requires narrow { Usable K.Kind.ops }
+    requires narrow { Usable K.ops }
     requires long { length bytes.now ≡ 12 + 10 * count }
-    ensures { result ≡ same (parts K.Kind.ops value.now) (listed count (drop 12 bytes.now)) }
+    ensures { result ≡ same (parts K.ops value.now) (listed count (drop 12 bytes.now)) }
 {
     let mut k: u16 = 0;
     for slot in 0..K::width() as u16 {

@@ -30,9 +30,9 @@ pub fn write_ack(header: Header, buf: &mut [u8]) -> Result<usize, WireFault>
 
 // Writes a value as a delta to the front of a buffer, in one pass over its parts, and answers its length.
 pub fn write_delta<K: Kind>(header: Header, value: &K, buf: &mut [u8]) -> Result<usize, WireFault>
-    ensures answer { numbered result ≡ writing K.Kind.ops value.now (length buf.old) }
-    ensures buffer { buf.new ≡ (if is_ok result then placed (delta_bytes header (parts K.Kind.ops value.now)) buf.old else buf.old) }
-    ensures back { IfOk result (λ n. reading K.Kind.ops (take n buf.new) ≡ Ok (Delta header value.now)) }
+    ensures answer { numbered result ≡ writing K.ops value.now (length buf.old) }
+    ensures buffer { buf.new ≡ (if is_ok result then placed (delta_bytes header (parts K.ops value.now)) buf.old else buf.old) }
+    ensures back { IfOk result (λ n. reading K.ops (take n buf.new) ≡ Ok (Delta header value.now)) }
 {
     check_room(value, buf.len())?;
     Ok(put_delta(header, value, buf))
@@ -40,7 +40,7 @@ pub fn write_delta<K: Kind>(header: Header, value: &K, buf: &mut [u8]) -> Result
 
 // Refuses room that is too little for the value's delta. Room for the longest datagram needs no count.
 fn check_room<K: Kind>(value: &K, room: usize) -> Result<(), WireFault>
-    ensures { numbered result ≡ walked K.Kind.ops (if nat_lt room (delta_length K.Kind.ops value.now) then Err 11 else Ok tt) }
+    ensures { numbered result ≡ walked K.ops (if nat_lt room (delta_length K.ops value.now) then Err 11 else Ok tt) }
 {
     check_width::<K>()?;
     if room >= LONGEST {
@@ -57,11 +57,11 @@ fn check_room<K: Kind>(value: &K, room: usize) -> Result<(), WireFault>
 }
 
 fn put_delta<K: Kind>(header: Header, value: &K, buf: &mut [u8]) -> usize
-    requires narrow { Usable K.Kind.ops }
-    requires room { delta_length K.Kind.ops value.now ≤ length buf.old }
-    ensures answer { result ≡ delta_length K.Kind.ops value.now }
-    ensures buffer { buf.new ≡ placed (delta_bytes header (parts K.Kind.ops value.now)) buf.old }
-    ensures back { reading K.Kind.ops (take result buf.new) ≡ Ok (Delta header value.now) }
+    requires narrow { Usable K.ops }
+    requires room { delta_length K.ops value.now ≤ length buf.old }
+    ensures answer { result ≡ delta_length K.ops value.now }
+    ensures buffer { buf.new ≡ placed (delta_bytes header (parts K.ops value.now)) buf.old }
+    ensures back { reading K.ops (take result buf.new) ≡ Ok (Delta header value.now) }
 {
     let count = write_parts(value, buf);
     let len = 12 + 10 * count;
@@ -72,11 +72,11 @@ fn put_delta<K: Kind>(header: Header, value: &K, buf: &mut [u8]) -> usize
 
 // Writes the parts of a value from byte 12 on, and answers how many there are.
 fn write_parts<K: Kind>(value: &K, buf: &mut [u8]) -> u16
-    requires narrow { Usable K.Kind.ops }
-    requires room { delta_length K.Kind.ops value.now ≤ length buf.old }
-    ensures count { result ≡ length (parts K.Kind.ops value.now) }
+    requires narrow { Usable K.ops }
+    requires room { delta_length K.ops value.now ≤ length buf.old }
+    ensures count { result ≡ length (parts K.ops value.now) }
     ensures few { result ≤ 1024 }
-    ensures buffer { buf.new ≡ over buf.old 12 (list_bytes (parts K.Kind.ops value.now)) }
+    ensures buffer { buf.new ≡ over buf.old 12 (list_bytes (parts K.ops value.now)) }
 {
     let mut n: u16 = 0;
     for slot in 0..K::width() as u16 {

@@ -19,7 +19,7 @@ use lattice::part::Part;
 impl Draft {
     // A draft without parts.
     pub fn begin<K: Kind>(header: Header, buf: &mut [u8]) -> Result<Draft, WireFault>
-        ensures answer { numbered result ≡ walked K.Kind.ops (if ltb (length buf.old) 12 then Err 11 else Ok (record { header = header; count = 0 })) }
+        ensures answer { numbered result ≡ walked K.ops (if ltb (length buf.old) 12 then Err 11 else Ok (record { header = header; count = 0 })) }
         ensures buffer { buf.new ≡ (if is_ok result then placed (delta_bytes header []) buf.old else buf.old) }
     {
         check_width::<K>()?;
@@ -32,7 +32,7 @@ impl Draft {
 
     // Adds a part, which costs a reading of the parts so far and one walk over the slots.
     pub fn add<K: Kind>(&mut self, buf: &mut [u8], part: Part) -> Result<(), WireFault>
-        ensures answer { numbered result ≡ adding K.Kind.ops self.old buf.old part.slot part.level }
+        ensures answer { numbered result ≡ adding K.ops self.old buf.old part.slot part.level }
         ensures draft { self.new ≡ (if is_ok result then longer self.old else self.old) }
         ensures buffer { buf.new ≡ (if is_ok result then placed (longer_bytes self.old buf.old part.slot part.level) buf.old else buf.old) }
     {
@@ -59,9 +59,9 @@ impl Draft {
 
     // Adds a part where there is room, and answers whether it may follow the parts so far.
     fn grow<K: Kind>(&mut self, buf: &mut [u8], part: Part) -> bool
-        requires narrow { Usable K.Kind.ops }
+        requires narrow { Usable K.ops }
         requires room { 22 + 10 * self.old.count ≤ length buf.old }
-        ensures answer { result ≡ takes K.Kind.ops (so_far K.Kind.ops self.old buf.old) part.slot part.level }
+        ensures answer { result ≡ takes K.ops (so_far K.ops self.old buf.old) part.slot part.level }
         ensures draft { self.new ≡ (if result then longer self.old else self.old) }
         ensures buffer { buf.new ≡ (if result then placed (longer_bytes self.old buf.old part.slot part.level) buf.old else buf.old) }
     {
@@ -107,7 +107,7 @@ impl Sealed {
 
     // Whether bytes are a datagram of this header and count; what sending does before it puts them.
     pub fn check<K: Kind>(&self, bytes: &[u8]) -> Result<(), WireFault>
-        ensures { numbered result ≡ checking K.Kind.ops self.now bytes.now }
+        ensures { numbered result ≡ checking K.ops self.now bytes.now }
     {
         let header = match read::<K>(bytes)? {
             Datagram::Delta(header, _) => header,
@@ -136,8 +136,8 @@ fn equal_headers(a: Header, b: Header) -> bool
 
 // The value of a delta with the header given.
 fn delta_of<K: Kind>(header: Header, bytes: &[u8]) -> Option<K>
-    ensures value { result ≡ of_delta K.Kind.ops header (reading K.Kind.ops bytes.now) }
-    ensures written { IfSome result (λ v. (delta_bytes header (parts K.Kind.ops v) ≡ bytes.now) × (parts K.Kind.ops v ≡ parts_in bytes.now)) }
+    ensures value { result ≡ of_delta K.ops header (reading K.ops bytes.now) }
+    ensures written { IfSome result (λ v. (delta_bytes header (parts K.ops v) ≡ bytes.now) × (parts K.ops v ≡ parts_in bytes.now)) }
 {
     let Ok(datagram) = read::<K>(bytes) else {
         return None;
@@ -154,8 +154,8 @@ fn delta_of<K: Kind>(header: Header, bytes: &[u8]) -> Option<K>
 
 // Whether a part may come after the parts of a value: it rises, and is neither under nor above any of them.
 fn may_follow<K: Kind>(value: &K, part: Part) -> bool
-    requires { Usable K.Kind.ops }
-    ensures { result ≡ follows_on K.Kind.ops (parts K.Kind.ops value.now) part.slot part.level }
+    requires { Usable K.ops }
+    ensures { result ≡ follows_on K.ops (parts K.ops value.now) part.slot part.level }
 {
     let mut alone = K::bottom();
     if !alone.join_part(part) {

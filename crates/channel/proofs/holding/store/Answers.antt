@@ -8,4 +8,4 @@ in-front b xs rest e h = ap (λ (y : List ℕ). take (min (length b) 10252) (y +
 pub returns : goal.returns
 returns c =
     let b : List ℕ = c.args.datagram.now in
-    in-front b c.copy-from-slice.new.self (post_of 0 (length b - 0) c.args.front.now) c.copy-from-slice.ensures.after c.requires
+    in-front b c.copy_from_slice.new.self (post_of 0 (length b - 0) c.args.front.now) c.copy_from_slice.ensures.after c.requires

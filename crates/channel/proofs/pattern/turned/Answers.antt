@@ -8,4 +8,4 @@ returns c =
     let small : p / 2 < 2 ^ 31 = omega arith in
     let wraps : (p * 2 ^ 31) % 2 ^ 32 ≡ (p % 2) * 2 ^ 31 = omega arith in
     let joined = or_shifted_r (p % 2) 31 (p / 2) small in
-    c.rotate-right.ensures ∙ ap (bit_or (p / 2)) wraps ∙ joined ∙ omega arith
+    c.rotate_right.ensures ∙ ap (bit_or (p / 2)) wraps ∙ joined ∙ omega arith

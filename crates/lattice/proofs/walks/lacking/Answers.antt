@@ -20,8 +20,8 @@ loop-slot-preserved g c =
     let acc = c.loop-slot.out in
     let out = c.if-level-gt0.out in
     elim c.if-level-gt0.branch [
-      | then-level-gt0+then-not-covers w ↦ turn_joined o L a b n l w.covers.result acc w.join-part.new.self out c.level-level.ensures w.if-level-gt0.true
-          w.covers.ensures w.if-not-covers.true c.loop-slot.invariant w.join-part.ensures.after w.out-is
+      | then-level-gt0+then-not-covers w ↦ turn_joined o L a b n l w.covers.result acc w.join_part.new.self out c.level-level.ensures w.if-level-gt0.true
+          w.covers.ensures w.if-not-covers.true c.loop-slot.invariant w.join_part.ensures.after w.out-is
       | then-level-gt0+else-not-covers w ↦ turn_covered o L a b n l w.covers.result acc out c.level-level.ensures w.if-level-gt0.true
           w.covers.ensures w.if-not-covers.false c.loop-slot.invariant w.out-is
       | else-level-gt0 w ↦ turn_none o a b n l acc out c.level-level.ensures w.if-level-gt0.false c.loop-slot.invariant w.out-is

@@ -2,13 +2,13 @@ use Rattle.std.proofs.Common.{arith}
 use Rattle.mailbox.proofs.Regions.{within_at, replaced}
 use Rattle.mailbox.proofs.mailbox.replace.Goals as goal
 
-pub slice-bounds-copy-from-slice-end : goal.slice-bounds-copy-from-slice-end
-slice-bounds-copy-from-slice-end c = omega (arith, within_at c.args.buf.now c.args.receiver c.cell-size.result c.cell-size.ensures c.requires.receiver)
+pub slice_bounds-copy_from_slice-end : goal.slice_bounds-copy_from_slice-end
+slice_bounds-copy_from_slice-end c = omega (arith, within_at c.args.buf.now c.args.receiver c.cell_size.result c.cell_size.ensures c.requires.receiver)
 
-pub slice-bounds-copy-from-slice-end-3 : goal.slice-bounds-copy-from-slice-end-3
-slice-bounds-copy-from-slice-end-3 c = omega (arith, within_at c.args.buf.now c.args.receiver c.cell-size.result c.cell-size.ensures c.requires.receiver)
+pub slice_bounds-copy_from_slice-end-3 : goal.slice_bounds-copy_from_slice-end-3
+slice_bounds-copy_from_slice-end-3 c = omega (arith, within_at c.args.buf.now c.args.receiver c.cell_size.result c.cell_size.ensures c.requires.receiver)
 
 pub returns : goal.returns
 returns c =
-    replaced c.args.buf.now c.args.receiver c.cell-size.result c.args.bytes.now c.copy-from-slice.new.self c.copy-from-slice-2.new.self
-    c.cell-size.ensures c.requires.receiver c.requires.sized.0 c.requires.room c.copy-from-slice.ensures.after c.copy-from-slice-2.ensures.after
+    replaced c.args.buf.now c.args.receiver c.cell_size.result c.args.bytes.now c.copy_from_slice.new.self c.copy_from_slice-2.new.self
+    c.cell_size.ensures c.requires.receiver c.requires.sized.0 c.requires.room c.copy_from_slice.ensures.after c.copy_from_slice-2.ensures.after

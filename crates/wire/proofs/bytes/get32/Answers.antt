@@ -3,4 +3,4 @@ use Rattle.wire.proofs.Little.{field_4}
 use Rattle.wire.proofs.bytes.get32.Goals as goal
 
 pub returns : goal.returns
-returns c = c.from-le-bytes.ensures ∙ field_4 c.args.b.now c.args.at c.requires
+returns c = c.from_le_bytes.ensures ∙ field_4 c.args.b.now c.args.at c.requires

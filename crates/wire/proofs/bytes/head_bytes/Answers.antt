@@ -6,6 +6,6 @@ use Rattle.wire.proofs.bytes.head_bytes.Goals as goal
 pub returns : goal.returns
 unfolding head le
 returns c = record {
-  bytes = simp (c.to-le-bytes-a.ensures, c.to-le-bytes-b.ensures, c.to-le-bytes-n.ensures, c.bounded.ensures.same, div-div-eq-div-mul);
+  bytes = simp (c.to_le_bytes-a.ensures, c.to_le_bytes-b.ensures, c.to_le_bytes-n.ensures, c.bounded.ensures.same, div-div-eq-div-mul);
   fits = c.bounded.ensures.fits;
 }

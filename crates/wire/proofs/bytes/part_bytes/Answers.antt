@@ -5,4 +5,4 @@ use Rattle.wire.proofs.bytes.part_bytes.Goals as goal
 
 pub returns : goal.returns
 unfolding part_bytes le
-returns c = simp (c.to-le-bytes-s.ensures, c.to-le-bytes-l.ensures, div-div-eq-div-mul)
+returns c = simp (c.to_le_bytes-s.ensures, c.to_le_bytes-l.ensures, div-div-eq-div-mul)

@@ -34,15 +34,15 @@ returns-then-slot-least g c =
     (c.loop-k.invariant.0 ∙ ranged_low o c.loop-k.least (rest b n k) (rest b n (k + 1)) c.get16-slot.result c.get64-level.result
     (rest_at b n k c.get16-slot.result c.get64-level.result c.loop-k-test.true c.get16-slot.ensures c.get64-level.ensures) c.if-slot-least.true)
 
-pub returns-then-not-join-part : goal.returns-then-not-join-part
-returns-then-not-join-part g c =
+pub returns-then-not-join_part : goal.returns-then-not-join_part
+returns-then-not-join_part g c =
     let o = g.K.Kind.ops in
     let b = c.args.bytes.now in
     let n = c.args.count in
     let k = c.loop-k.k in
     none_is (ranged o 0 (listed n (drop 12 b))) (joined o (listed n (drop 12 b)))
     (c.loop-k.invariant.0 ∙ ranged_bad o c.loop-k.least (rest b n k) (rest b n (k + 1)) c.get16-slot.result c.get64-level.result
-    (rest_at b n k c.get16-slot.result c.get64-level.result c.loop-k-test.true c.get16-slot.ensures c.get64-level.ensures) (sym c.if-not-join-part.ensures.answer))
+    (rest_at b n k c.get16-slot.result c.get64-level.result c.loop-k-test.true c.get16-slot.ensures c.get64-level.ensures) (sym c.if-not-join_part.ensures.answer))
 
 pub loop-k-preserved : goal.loop-k-preserved
 loop-k-preserved g c =
@@ -53,9 +53,9 @@ loop-k-preserved g c =
     let s = c.get16-slot.result in
     let l = c.get64-level.result in
     let e : rest b n k ≡ record { slot = s; level = l } ∷ rest b n (k + 1) = rest_at b n k s l c.loop-k-test.true c.get16-slot.ensures c.get64-level.ensures in (
-      c.loop-k.invariant.0 ∙ ranged_more o c.loop-k.least (rest b n k) (rest b n (k + 1)) s l e c.if-slot-least.false (sym c.if-not-join-part.ensures.answer),
+      c.loop-k.invariant.0 ∙ ranged_more o c.loop-k.least (rest b n k) (rest b n (k + 1)) s l e c.if-slot-least.false (sym c.if-not-join_part.ensures.answer),
       c.loop-k.invariant.1 ∙ join_more o g.met.K.Kind.ordered c.loop-k.value (rest b n k) (rest b n (k + 1)) s l e
-          ∙ ap (λ (w : g.row.K.Denot). o.join w (joined o (rest b n (k + 1)))) (sym (part_joined o c.loop-k.value c.join-part.new.self s l c.if-not-join-part.ensures.answer c.join-part.ensures.after)),
+          ∙ ap (λ (w : g.row.K.Denot). o.join w (joined o (rest b n (k + 1)))) (sym (part_joined o c.loop-k.value c.join_part.new.self s l c.if-not-join_part.ensures.answer c.join_part.ensures.after)),
     )
 
 pub returns : goal.returns

@@ -3,4 +3,4 @@ use Rattle.wire.proofs.write.check_room.Goals as goal
 
 pub returns-then-room-ge-LONGEST : goal.returns-then-room-ge-LONGEST
 returns-then-room-ge-LONGEST g c =
-    room_for_all g.K.Kind.ops c.args.value.now c.args.room c.if-room-ge-LONGEST.true c.in-ok-check-width.ensures
+    room_for_all g.K.Kind.ops c.args.value.now c.args.room c.if-room-ge-LONGEST.true c.in_ok-check_width.ensures

@@ -8,5 +8,5 @@ pub returns : goal.returns
 unfolding ack_bytes
 returns c = record {
   answer = search rules;
-  buffer = c.put.ensures ∙ ap (over c.args.buf.now 0) c.head-bytes.ensures.bytes ∙ over_placed c.args.buf.now (ack_bytes c.args.header);
+  buffer = c.put.ensures ∙ ap (over c.args.buf.now 0) c.head_bytes.ensures.bytes ∙ over_placed c.args.buf.now (ack_bytes c.args.header);
 }

@@ -25,7 +25,7 @@ put-requires g c =
       c.loop-slot.invariant.1,
       c.loop-slot.auto.buf,
       c.requires.room,
-      ap length c.part-bytes.ensures,
+      ap length c.part_bytes.ensures,
       length_part_bytes s l,
       below_room o v (s + 1) (omega (arith, c.loop-slot-test.true, c.width-slot-end.ensures)),
     )
@@ -43,8 +43,8 @@ loop-slot-preserved g c =
           let e : qs ≡ ps ++ record { slot = s; level = l } ∷ [] = below_one o v s l c.level-level.ensures w.if-level-gt0.true in (
             omega (arith, w.n-is, c.loop-slot.invariant.0),
             w.n-is ∙ ap (λ (k : ℕ). k + 1) c.loop-slot.invariant.1 ∙ sym (ap length e ∙ length_push ps (record { slot = s; level = l })),
-            part_written c.args.buf.now c.loop-slot.buf c.if-level-gt0.buf ps qs c.loop-slot.n s l w.part-bytes.result
-                (omega (arith, c.requires.room)) c.loop-slot.invariant.1 c.loop-slot.invariant.2 w.part-bytes.ensures (w.buf-is ∙ w.put.ensures) e,
+            part_written c.args.buf.now c.loop-slot.buf c.if-level-gt0.buf ps qs c.loop-slot.n s l w.part_bytes.result
+                (omega (arith, c.requires.room)) c.loop-slot.invariant.1 c.loop-slot.invariant.2 w.part_bytes.ensures (w.buf-is ∙ w.put.ensures) e,
           )
       | else-level-gt0 w ↦
           let e : qs ≡ ps = below_none o v s l c.level-level.ensures w.if-level-gt0.false in (

@@ -9,6 +9,6 @@ returns-in-None g c =
     let l = c.args.part.level in
     let below = found_left s p.width _ c.in-None.ensures in
     record {
-      answer = answer_left p q s l c.join-part.result below c.join-part.ensures.answer;
-      after = join_left p q g.met.B.Kind.ordered c.args.self.now s l c.join-part.new.self below c.join-part.ensures.after;
+      answer = answer_left p q s l c.join_part.result below c.join_part.ensures.answer;
+      after = join_left p q g.met.B.Kind.ordered c.args.self.now s l c.join_part.new.self below c.join_part.ensures.after;
     }

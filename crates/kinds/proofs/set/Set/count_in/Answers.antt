@@ -11,8 +11,8 @@ pub loop-i-init : goal.loop-i-init
 unfolding sum_below
 loop-i-init c = (omega arith, omega arith)
 
-pub overflow-add-members : goal.overflow-add-members
-overflow-add-members c =
+pub overflow_add-members : goal.overflow_add-members
+overflow_add-members c =
     let i = c.loop-i.i in
     let x = c.args.self.now in
     omega (arith, few (get_or x.words i 0) (x.ok.1 i))

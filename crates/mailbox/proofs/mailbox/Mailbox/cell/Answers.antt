@@ -1,8 +1,8 @@
 use Rattle.mailbox.proofs.Regions.{within_at, cell_is}
 use Rattle.mailbox.proofs.mailbox.Mailbox.cell.Goals as goal
 
-pub slice-bounds-result-end : goal.slice-bounds-result-end
-slice-bounds-result-end c = within_at c.args.self.now.buf.now c.args.receiver c.cell-size-size.result c.cell-size-size.ensures c.requires
+pub slice_bounds-result-end : goal.slice_bounds-result-end
+slice_bounds-result-end c = within_at c.args.self.now.buf.now c.args.receiver c.cell_size-size.result c.cell_size-size.ensures c.requires
 
 pub returns : goal.returns
-returns c = cell_is c.args.self.now.buf.now c.args.receiver c.cell-size-size.result c.cell-size-size.ensures
+returns c = cell_is c.args.self.now.buf.now c.args.receiver c.cell_size-size.result c.cell_size-size.ensures

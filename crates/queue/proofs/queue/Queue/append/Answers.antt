@@ -5,8 +5,8 @@ use Rattle.queue.proofs.Heads.{is_fine}
 use Rattle.queue.proofs.Queued.{end_of, stored_decodes}
 use Rattle.queue.proofs.queue.Queue.append.Goals as goal
 
-pub overflow-sub-self : goal.overflow-sub-self
-overflow-sub-self c =
+pub overflow_sub-self : goal.overflow_sub-self
+overflow_sub-self c =
     let q = c.args.self.now in
     let e = end_of (take q.used q.buf.now) 255 c.search-at.result.0 c.search-at.result.1 (lit≤ tt) c.search-at.ensures in
     omega (arith, e.inside, length-take q.used q.buf.now)

@@ -19,8 +19,8 @@ returns-then-out-len c =
     let t = taken (take q.used q.buf.now) c.args.receiver s.result.0 s.result.1 s.ensures c.if-len-eq0.false in
     too_short QueueTakes q q c.args.receiver o o (queue_ready q c.args.receiver) t.body t.ready (omega (arith, t.long)) refl refl
 
-pub overflow-add-at : goal.overflow-add-at
-overflow-add-at c =
+pub overflow_add-at : goal.overflow_add-at
+overflow_add-at c =
     let q = c.args.self.now in
     let s = c.search-at in
     let t = taken (take q.used q.buf.now) c.args.receiver s.result.0 s.result.1 s.ensures c.if-len-eq0.false in

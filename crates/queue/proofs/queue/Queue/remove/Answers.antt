@@ -7,8 +7,8 @@ close-requires c =
     let e = c.end-end in
     (omega (arith, c.requires, ap length e.ensures.used, length-take e.result c.args.self.now.buf.now), e.ensures.within)
 
-pub overflow-sub-self : goal.overflow-sub-self
-overflow-sub-self c =
+pub overflow_sub-self : goal.overflow_sub-self
+overflow_sub-self c =
     let e = c.end-end in
     omega (arith, c.requires, ap length e.ensures.used, length-take e.result c.args.self.now.buf.now)
 

@@ -7,16 +7,16 @@ use Rattle.wire.proofs.Adding.{front_is, takes_is, standing, few}
 use Rattle.wire.proofs.Over.{add_put}
 use Rattle.wire.proofs.draft.Draft.grow.Goals as goal
 
-pub overflow-add-more : goal.overflow-add-more
-overflow-add-more g c =
+pub overflow_add-more : goal.overflow_add-more
+overflow_add-more g c =
     omega (arith, few g.K.Kind.ops c.args.self.now c.args.buf.now c.in-Some.value c.requires.narrow c.requires.room c.in-Some.ensures.written.0)
 
-pub overflow-mul-more : goal.overflow-mul-more
-overflow-mul-more g c =
+pub overflow_mul-more : goal.overflow_mul-more
+overflow_mul-more g c =
     omega (arith, few g.K.Kind.ops c.args.self.now c.args.buf.now c.in-Some.value c.requires.narrow c.requires.room c.in-Some.ensures.written.0)
 
-pub overflow-add-more-2 : goal.overflow-add-more-2
-overflow-add-more-2 g c =
+pub overflow_add-more-2 : goal.overflow_add-more-2
+overflow_add-more-2 g c =
     omega (arith, few g.K.Kind.ops c.args.self.now c.args.buf.now c.in-Some.value c.requires.narrow c.requires.room c.in-Some.ensures.written.0)
 
 pub returns : goal.returns
@@ -31,11 +31,11 @@ returns g c =
     let e : f ≡ take (12 + 10 * d.count) b = front_is b (12 + 10 * d.count) in
     let st = standing o d b f v c.requires.narrow c.requires.room e c.in-Some.ensures.written.0 in
     record {
-      answer = takes_is o d b s l f v true e c.in-Some.ensures.value c.if-not-may-follow.ensures;
+      answer = takes_is o d b s l f v true e c.in-Some.ensures.value c.if-not-may_follow.ensures;
       draft = refl;
       buffer =
-          add_put b c.put.new.buf c.put-2.new.buf c.put-3.new.buf c.part-bytes.result c.head-bytes.result c.to-le-bytes.result d.header (parts o v)
-          d.count s l c.requires.room st.0 st.2 c.part-bytes.ensures c.put.ensures c.head-bytes.ensures.bytes c.put-2.ensures c.to-le-bytes.ensures
+          add_put b c.put.new.buf c.put-2.new.buf c.put-3.new.buf c.part_bytes.result c.head_bytes.result c.to_le_bytes.result d.header (parts o v)
+          d.count s l c.requires.room st.0 st.2 c.part_bytes.ensures c.put.ensures c.head_bytes.ensures.bytes c.put-2.ensures c.to_le_bytes.ensures
           c.put-3.ensures
           ∙ ap (λ (ps : List Part). placed (delta_bytes d.header (ps ++ record { slot = s; level = l } ∷ [])) b) (c.in-Some.ensures.written.1 ∙ ap parts_in e);
     }

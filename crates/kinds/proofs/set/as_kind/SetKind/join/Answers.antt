@@ -7,8 +7,8 @@ use Rattle.kinds.specs.Members.{set_shaped}
 use Rattle.kinds.specs.Words.{bit_of_or, or_bounded}
 use Rattle.kinds.proofs.set.as_kind.SetKind.join.Goals as goal
 
-pub invariant-of-self : goal.invariant-of-self
-invariant-of-self c =
+pub invariant_of-self : goal.invariant_of-self
+invariant_of-self c =
     let i = c.loop-i.i in
     let x = c.loop-i.self in
     let y = c.args.other.now in
