@@ -12,7 +12,7 @@ invariant_of-self c =
     let i = c.loop-i.i in
     let x = c.loop-i.self in
     let y = c.args.other.now in
-    (bounded_set 4 18446744073709551615 x.words i _ x.ok (or_bounded (get_or x.words i 0) (get_or y.words i 0) (x.ok.1 i) (y.ok.1 i)), tt)
+    record { ok = bounded_set 4 18446744073709551615 x.words i _ x.ok (or_bounded (get_or x.words i 0) (get_or y.words i 0) (x.ok.1 i) (y.ok.1 i)) }
 
 pub returns : goal.returns
 returns c =
