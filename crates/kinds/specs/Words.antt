@@ -1,5 +1,5 @@
 -- The bits of words and of rows of words. Assumes nothing.
-use Rattle.std.specs.Prelude.{◌≡◌, ℕ, zero, suc, ◌+◌, ◌*◌, ◌/◌, ◌%◌, ◌^◌, ◌<◌, ◌≤◌, min, max, List, length, set, replicate, ◌≢◌, count_ones, slice_index, slice_index_or, slice_set, refl}
+use Rattle.std.specs.Prelude.{◌≡◌, ℕ, zero, suc, ◌+◌, ◌*◌, ◌/◌, ◌%◌, ◌^◌, ◌<◌, ◌≤◌, min, max, List, length, replicate, ◌≢◌, count_ones, slice_index, slice_index_or, slice_set, refl}
 use Rattle.std.proofs.Common.{sym, ap, ap₂, ◌∙◌, ⊎_elim, add-zero, add-suc, pow-suc, one-add, arith, length-set}
 use Rattle.std.proofs.Math.Nat.{zero-div, div_self}
 use Rattle.std.specs.Int.Bits.{bit_and, bit_or, or_step}

@@ -14,7 +14,7 @@ use Rattle.reached.specs.Run.{queue_line}
 
 -- the records of the datagrams, and zeros
 unfoldable pub holding : List Waiting → Queue
-holding ws = record { buf = record { ref_ptr = (0, 0); now = encodes ws ++ replicate (128 - cost ws) 0 }; used = cost ws }
+holding ws = record { buf = record { ref_ptr = (0, 0); ghost_name = 0; now = encodes ws ++ replicate (128 - cost ws) 0 }; used = cost ws }
 
 -- they have their place in it
 abbrev pub fit : List Waiting → Bool

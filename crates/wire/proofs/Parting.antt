@@ -1,5 +1,5 @@
 -- Which parts may follow others. Assumes nothing.
-use Rattle.std.proofs.Common.{◌≡◌, ℕ, ◌-◌, Bool, true, false, cond, not, ◌&&◌, ltb, ◌⊎◌, List, [], ◌∷◌, sym, refl, ap, ◌∙◌, ⊎_elim}
+use Rattle.std.proofs.Common.{◌≡◌, ℕ, Bool, true, false, cond, not, ◌&&◌, ltb, List, [], ◌∷◌, sym, refl, ap, ◌∙◌, ⊎_elim}
 use Rattle.std.proofs.lemmas.Bool.{and_parts, cond-true, and_left, and_right, both_ways, not_from_false}
 use Rattle.lattice.specs.Laws.{Laws, Lattice}
 use Rattle.lattice.specs.Ops.{Ops, parts, joined}
