@@ -1,6 +1,6 @@
 -- The bytes of a datagram, and what bytes read as. Assumes nothing.
 use Rattle.std.specs.Prelude.{◌≡◌, ℕ, zero, suc, ◌+◌, ◌*◌, ◌<◌, Bool, true, false, cond, not, ◌&&◌, ◌||◌, List, [], ◌∷◌, ◌++◌, length, drop, Ok, Err, Result, ◌==◌, nat_le, nat_lt, slice_index}
-use Rattle.std.specs.List.{AllByRecursion as All}
+use Rattle.std.specs.List.{AllByRecursion}
 use Rattle.lattice.specs.Laws.{Usable}
 use Rattle.lattice.specs.Ops.{Ops, parts, joined, walked}
 use Rattle.lattice.specs.declared.part.Part.{Part}
@@ -113,7 +113,7 @@ header_of (ack h) = h
 
 -- each is a byte
 abbrev pub Bytes : List ℕ → Type 0
-Bytes b = All (λ x. x < 256) b
+Bytes b = AllByRecursion (λ x. x < 256) b
 
 module _ {K : Type 0} (o : Ops K) where
   -- what is written reads back equal, for numbers of 32 bits
