@@ -1,10 +1,9 @@
 #!/usr/bin/env bash
 # Shows that the compiler refuses each misuse of tools/misuse: an edit of a crate's source, tried on a copy. A misuse that
-# compiles, or that is refused for another reason than the edit says, fails. Run it after `rt ci` or `rt check`, whose
-# proofs it takes over, so that only the front end has to look at the edited crate.
+# compiles, or that is refused for another reason than the edit says, fails. Nothing is proved here: the check's first pass over
+# the sources is enough to refuse them.
 set -euo pipefail
 cd "$(dirname "$0")/.."
-[ -d target ] || { echo "misuse: no target/ here: run 'rt check' first"; exit 1; }
 
 field() { sed -n "s/^$1: //p" "$2"; }
 
@@ -17,17 +16,17 @@ for edit in tools/misuse/*.edit; do
     new=$(field new "$edit")
     says=$(field says "$edit")
     rm -rf "$work/repo"
-    mkdir -p "$work/repo/target"
-    cp -r crates crates.txt "$work/repo/"
-    cp -r target/rlib target/stamp target/log "$work/repo/target/"
+    mkdir "$work/repo"
+    tar -c --exclude=out crates crates.txt | tar -x -C "$work/repo"
     source="$work/repo/crates/$crate/$(field file "$edit")"
     text=$(<"$source")
     [[ "$text" == *"$old"* ]] || { echo "misuse $name: its old text does not stand in $crate"; exit 1; }
     printf '%s\n' "${text/"$old"/"$new"}" > "$source"
-    if (cd "$work/repo" && rt mir "$crate") > "$work/log" 2>&1; then
+    if (cd "$work/repo/crates/$crate" && rt check) > "$work/log" 2>&1; then
         echo "misuse $name: it compiles, and must not"
         exit 1
     fi
     grep -qF "$says" "$work/log" || { echo "misuse $name: refused, but not by '$says':"; head -n 5 "$work/log"; exit 1; }
+    grep -qF 'no library was built' "$work/log" || { echo "misuse $name: refused by a proof, not by the compiler"; exit 1; }
     echo "misuse $name: refused by the compiler, as it must be ($says)"
 done

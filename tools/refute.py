@@ -4,7 +4,7 @@
     tools/refute.py            every fault, and the controls; under 3 minutes
     tools/refute.py NAME..     these faults alone, and the controls
 
-Run it after `rt check` or `rt ci`, whose proofs of the crates below `history` it takes over. It works in a copy, and removes it.
+Run it after `rt check` in crates/history, whose proofs of the crates below `history` it takes over. It works in a copy, and removes it.
 
 Each fault is an edit of the definitions of a group (crates/history/specs). The book that a group is held against is never
 edited. With the fault the checker proves, over a small kind and a small channel (tools/refute/example.txt), that a run is
@@ -40,17 +40,12 @@ from faults import FAULTS, Run, honest  # noqa: E402
 
 
 def made_copy(work):
-    """The crates that history rests on, and what was proved of them, so that only history is checked."""
+    """The crates that history rests on, with what `rt check` kept of them, so that only history is checked."""
     crates = {line.split(":")[0]: line for line in (ROOT / "crates.txt").read_text().splitlines()}
     below = crates["history"].split(":")[1].split()
     (work / "crates.txt").write_text("".join(line + "\n" for name, line in crates.items() if name in [*below, "history"]))
     for name in below:
         shutil.copytree(ROOT / "crates" / name, work / "crates" / name)
-        for proved in (f"rlib/{name}.rlib", f"stamp/{name}", f"stamp/{name}.*", f"log/{name}.*"):
-            for path in (ROOT / "target").glob(proved):
-                place = work / "target" / path.parent.name / path.name
-                place.parent.mkdir(parents=True, exist_ok=True)
-                (shutil.copytree if path.is_dir() else shutil.copy2)(path, place)
 
 
 def write(path, text):
@@ -82,15 +77,15 @@ def edited(crate, fault):
 
 def claim(crate, function, statement, used, module, answer):
     """A function whose contract is the statement, and the proof of it."""
-    code = f"\npub fn {function}() -> u8\n    ensures {{ λ _. ⌜ {statement} ⌝ }}\n{{\n    0\n}}\n"
+    code = f"\npub fn {function}() -> u8\n    ensures {{ {statement} }}\n{{\n    0\n}}\n"
     append(crate / "src" / "lib.rt", code)
-    needs = f"use Rattle·history·proofs.{module}.{{{used}}}\nuse Rattle·history·proofs.{function}.Needs as need\n"
-    write(crate / "proofs" / function / "Answers.antt", f"{needs}\npub returns : need.returns\nreturns c = {answer}\n")
+    needs = f"use Rattle.history.proofs.{module}.{{{used}}}\nuse Rattle.history.proofs.{function}.Goals as goal\n"
+    write(crate / "proofs" / function / "Answers.antt", f"{needs}\npub returns : goal.returns\nreturns c = {answer}\n")
 
 
 def refutations(crate, faults):
     """The crate's proofs and its code: for each fault that its parts fail, and that the theorem is false."""
-    uses = "ghost use Rattle·history·specs.Example.{Breaks, Refuted, holds, knows, newest, keeps};\n"
+    uses = "#![tactic(auto)]\n\nghost use Rattle.history.specs.Example.{Breaks, Refuted, holds, knows, newest, keeps};\n"
     write(crate / "src" / "lib.rt", uses + "pub mod answers;\npub mod kept;\n")
     write(crate / "proofs" / "Lib.antt", "".join(f"pub mod {fault.module()}\n" for fault in faults))
     for fault in faults:
@@ -98,7 +93,7 @@ def refutations(crate, faults):
         fault.run(run)
         write(crate / "proofs" / f"{fault.module()}.antt", run.written())
         for part, function in zip(fault.parts, fault.functions()):
-            names = f"breaks-{part}, refuted-{part}"
+            names = f"breaks_{part}, refuted_{part}"
             claim(crate, function, f"(Breaks {part} × Refuted)", names, fault.module(), f"({names})")
 
 
@@ -107,7 +102,7 @@ def theorem(crate):
     shutil.copytree(HISTORY / "src", crate / "src", dirs_exist_ok=True)
     shutil.copytree(HISTORY / "proofs", crate / "proofs")
     code = (crate / "src" / "lib.rt").read_text()
-    write(crate / "src" / "lib.rt", "ghost use Rattle·history·specs.Example.{Sound, Promised, Arrives};\n" + code)
+    write(crate / "src" / "lib.rt", code.replace("#![tactic(auto)]\n", "#![tactic(auto)]\n\nghost use Rattle.history.specs.Example.{Sound, Promised, Arrives};\n"))
     append(crate / "proofs" / "Lib.antt", "pub mod Small\npub mod Honest\n")
     write(crate / "proofs" / "Small.antt", (TEXTS / "laws.txt").read_text())
     run = Run()
@@ -123,9 +118,10 @@ def theorem(crate):
 
 def checked(work):
     """How `rt check` ends, its verdict on each function, the declarations that it refuses (by module), and its errors."""
-    # from nothing, so that no verdict rests on that of another fault
-    shutil.rmtree(work / "target" / "inc", ignore_errors=True)
-    ran = subprocess.run(["rt", "check", "history"], cwd=work, capture_output=True, text=True)
+    # with nothing kept of the crate itself, so that no verdict rests on that of another fault
+    crate = work / "crates" / "history"
+    shutil.rmtree(crate / "out", ignore_errors=True)
+    ran = subprocess.run(["rt", "check"], cwd=crate, capture_output=True, text=True)
     said = ran.stdout + ran.stderr
     verdicts = dict(re.findall(r"^fn history::(\w+): (proved|not proved)$", said, re.M))
     refused = set(re.findall(r"/proofs/(\w+)\.antt:\d+:\d+: error: `([\w-]+)`:", said))

@@ -53,8 +53,8 @@ def declared(path):
             if m:
                 found.add(m.group(1))
         else:
-            # below a `where`, what is indented is a lemma of the file's own
-            m = re.match(rf"^\s+({NAME})\s*:(?:\s|$)", code)
+            # what is no goal is a lemma of the file's own
+            m = re.match(rf"^\s*({NAME})\s*:(?:\s(?!goal\.)|$)", code)
             if m:
                 found.add(m.group(1))
         found.update(m.group(1) for m in re.finditer(rf"\blet\s+({NAME})\s*[:=]", code))
@@ -94,7 +94,7 @@ def build_map():
         names |= declared(path)
         if is_goal_file(path):
             for line in open(path):
-                m = re.match(rf"^(?:pub\s+)?({NAME})\s*:", line)
+                m = re.match(rf"^(?:pub\s+|abbrev pub\s+)?({NAME})\s*:\s+goal\.", line)
                 if m:
                     goals.add(m.group(1))
     plain = re.compile(r"^[A-Za-z0-9_'₀-₉-]+$")

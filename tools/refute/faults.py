@@ -58,10 +58,10 @@ def ack(sender, receiver, number):
 # A RUN
 
 # the definitions that the checker looks into, to work out a step and what the book of a run comes to
-CALLS = "calls.act calls.restart recording extended with-replica blank shipping shipment accepting raised"
-VALUES = "difference joined beyond parts-below parts-at all-below"
-BYTES = "written listing ack-bytes head le list-bytes part-bytes value field listed same ranged"
-BOOK = "entered with-page with-mutation mutation older marked unmarked empty-book worth"
+CALLS = "calls.act calls.restart recording extended with_replica blank shipping shipment accepting raised"
+VALUES = "difference joined beyond parts_below parts_at all_below"
+BYTES = "written listing ack_bytes head le list_bytes part_bytes value field listed same ranged"
+BOOK = "entered with_page with_mutation mutation older marked unmarked empty_book worth"
 UNFOLDED = f"unfolding {CALLS} {VALUES} {BYTES} {BOOK}"
 
 
@@ -107,7 +107,7 @@ class Run:
     def lose(self):
         """The channel loses the newest that waits."""
         self.channel.pop(0)
-        self.step(f"h{self.calls}", f"between r{self.calls} refl (λ x m. List·Memᴰ·tail m)")
+        self.step(f"h{self.calls}", f"between r{self.calls} refl (λ x m. Memᴰ.tail m)")
 
     def newest(self, r):
         return next(data for receiver, data in self.channel if receiver == r)
@@ -132,9 +132,9 @@ class Run:
 
     def breaks(self, part, proof):
         n = self.calls
-        self.text.append(f"fails-{part} : {part} h{n} (s{n} .group) → ⊥\n{UNFOLDED}\nfails-{part} it = {proof}\n")
-        self.text.append(f"pub breaks-{part} : Breaks {part}\nbreaks-{part} = (h{n}, s{n}, r{n}, fails-{part})\n")
-        self.text.append(f"pub refuted-{part} : Refuted\nrefuted-{part} = from-{part} breaks-{part}\n")
+        self.text.append(f"fails_{part} : {part} h{n} s{n}.group → ⊥\n{UNFOLDED}\nfails_{part} it = {proof}\n")
+        self.text.append(f"pub breaks_{part} : Breaks {part}\nbreaks_{part} = (h{n}, s{n}, r{n}, fails_{part})\n")
+        self.text.append(f"pub refuted_{part} : Refuted\nrefuted_{part} = from_{part} breaks_{part}\n")
 
     def arrives(self):
         n = self.calls
@@ -149,18 +149,18 @@ class Run:
 
 def differ(fact, has, should):
     """The part says of two different numbers that they are equal."""
-    return f"let e : _≡_ {{A = ℕ}} {has} {should} = it .{fact} in omega arith"
+    return f"let e : ◌≡◌ {{A = ℕ}} {has} {should} = it.{fact} in omega arith"
 
 
 WITHIN = "(omega arith)"
 OTHERS = f"{WITHIN} {WITHIN} (λ e. omega arith)"  # two places in the group, not the same
 # replica 0 has a mark as high as its clock, and yet the other lacks a flag of it
-NOT_LEVEL = f"both-ways false refl (it .level-with 0 1 {OTHERS} refl)"
+NOT_LEVEL = f"both_ways false refl (it.level_with 0 1 {OTHERS} refl)"
 
 
 def lacks_left(r):
     """By its account replica r has the left flag raised, and it has not."""
-    return f"both-ways false refl (ap (λ (v : Flags). v .0) (it .worth-held {r} {WITHIN}))"
+    return f"both_ways false refl (ap (λ (v : Flags). v.0) (it.worth_held {r} {WITHIN}))"
 
 
 # THE RUNS
@@ -246,9 +246,9 @@ def records_untrimmed(run):
     run.join(1, "Grown", SECOND._replace(ring=[(BOTH, 0)]))
     kept = f"(kept {flags(BOTH)} 0)"
     # only the right flag was new, and the ring has both
-    run.breaks("newest", f"both-ways true (ap (λ (k : Kept Flags). k .delta .0) (only (it .0) {kept} _ (it .1))) refl")
+    run.breaks("newest", f"both_ways true (ap (λ (k : Kept Flags). k.delta.0) (only it.0 {kept} _ it.1)) refl")
     # the right flag alone leads on as well, and both are not under it
-    run.breaks("keeps", f"both-ways false refl (it .least 1 0 {kept} {flags(RIGHT)} {WITHIN} {WITHIN} refl refl)")
+    run.breaks("keeps", f"both_ways false refl (it.least 1 0 {kept} {flags(RIGHT)} {WITHIN} {WITHIN} refl refl)")
 
 
 # THE FAULTS
@@ -275,31 +275,31 @@ class Fault(NamedTuple):
 
 FAULTS = [
     Fault(ships_empty, 2, ("knows",), "ships empty deltas", "Group",
-          "(delta (header r j (p .clock)) (shipment p j))",
-          "(delta (header r j (p .clock)) (o .bottom))"),
+          "(delta (header r j p.clock) (shipment p j))",
+          "(delta (header r j p.clock) o.bottom)"),
     Fault(joins_first_only, 7, ("knows",), "joins the first datagram and only acknowledges the rest", "Group",
-          "(Ok (delta h v)) = accept-ends p h (recording o limit p v (h .from))",
-          "(Ok (delta h v)) = cond (ltb 0 (p .clock)) (joins Same p h) (accept-ends p h (recording o limit p v (h .from)))"),
+          "(Ok (delta h v)) = accept_ends p h (recording o limit p v h.from)",
+          "(Ok (delta h v)) = cond (nat_lt 0 p.clock) (joins Same p h) (accept_ends p h (recording o limit p v h.from))"),
     Fault(miscounts_grown, 1, ("knows",), "counts 2 for a recording that grew", "Group",
-          "clock = p .clock + 1;",
-          "clock = p .clock + 2;"),
+          "clock = p.clock + 1;",
+          "clock = p.clock + 2;"),
     Fault(marks_at_shipping, 2, ("knows",), "moves a mark at shipping, as if it had been acknowledged", "History",
-          "j answer (s .channel) (t .channel) × (t .group ≡ s .group)",
-          "j answer (s .channel) (t .channel) × (t .group ≡ with-replica (s .group) r"
-          " (calls.raised (size (s .group)) r (replica o (s .group) r) j (replica o (s .group) r .clock)))"),
+          "j answer s.channel t.channel × (t.group ≡ s.group)",
+          "j answer s.channel t.channel × (t.group ≡ with_replica s.group r"
+          " (calls.raised (size s.group) r (replica o s.group r) j (replica o s.group r).clock))"),
     Fault(grown_unchanged, 1, ("holds",), "answers grown and keeps its value", "Group",
-          "value = o .join (p .value) d;",
-          "value = p .value;"),
+          "value = o.join p.value d;",
+          "value = p.value;"),
     Fault(ships_interval_dropped, 3, ("holds",), "ships an interval although its first deltas were dropped", "Group",
-          "cond (leb (p .oldest) (mark p j)) (join-all o (not-from j (drop (mark p j - p .oldest) (p .ring)))) (p .value)",
-          "join-all o (not-from j (drop (mark p j - p .oldest) (p .ring)))"),
+          "cond (nat_le p.oldest (mark p j)) (join_all o (not_from j (drop (mark p j - p.oldest) p.ring))) p.value",
+          "join_all o (not_from j (drop (mark p j - p.oldest) p.ring))"),
     Fault(restarts_at_0, 2, ("knows",), "sets the clock to 0 at restart", "Group",
-          "clock = p .clock; ring = []; oldest = p .clock;",
+          "clock = p.clock; ring = []; oldest = p.clock;",
           "clock = 0; ring = []; oldest = 0;"),
     Fault(lowers_mark, 9, ("knows",), "lowers a mark at a late acknowledgement", "Group",
-          "(set (p .marks) from (max (mark p from) number)))) p (set (p .marks) from (max (mark p from) number))",
-          "(set (p .marks) from number))) p (set (p .marks) from number)"),
+          "(slice_set p.marks from (max (mark p from) number)))) p (slice_set p.marks from (max (mark p from) number))",
+          "(slice_set p.marks from number))) p (slice_set p.marks from number)"),
     Fault(records_untrimmed, 6, ("newest", "keeps"), "records a received delta untrimmed", "Group",
-          "record { delta = difference o d (p .value); origin = origin }",
+          "record { delta = difference o d p.value; origin = origin }",
           "record { delta = d; origin = origin }"),
 ]

@@ -1,7 +1,7 @@
 -- What a caller learns from a take that got a datagram.
 use Rattle.std.proofs.Common.{◌≡◌, ℕ, ◌<◌, ◌≤◌, Bool, true, false, cond, leb, List, length, take, drop, Some, None, Ok, Err, Option, Result, refl, ap, ◌∙◌, subst, arith, take_at, leb-false, leb-true}
 use Rattle.channel.specs.declared.fault.ChannelFault.{ChannelFault}
-use Rattle.channel.specs.Meaning.{TakeLeaves, copied, fetched, in-front, take_answer}
+use Rattle.channel.specs.Meaning.{TakeLeaves, copied, fetched, in_front, take_answer}
 
 -- the ready datagram, n bytes long, stands at the front of the buffer
 pub record Got (to n : ℕ) (ready : Option (List ℕ)) (before after : List ℕ) : Type 0 where
@@ -20,7 +20,7 @@ module _ (to n : ℕ) (ready : Option (List ℕ)) (before after : List ℕ) wher
   fits b true k e = (cc, leb-true (length b) (length before) k)
   fits b false k e = no_way cc
 
-  by_case : (x : Bool) → leb 8 to ≡ x → (r : Option (List ℕ)) → ready ≡ r → ◌≡◌ {A = Result (Option ℕ) ℕ} (Ok (Some n)) (cond x (Err 4) (fetched (length before) r)) → after ≡ in-front r before
+  by_case : (x : Bool) → leb 8 to ≡ x → (r : Option (List ℕ)) → ready ≡ r → ◌≡◌ {A = Result (Option ℕ) ℕ} (Ok (Some n)) (cond x (Err 4) (fetched (length before) r)) → after ≡ in_front r before
       → Got to n ready before after
   by_case true x r e a o = no_way cc
   by_case false x None e a o = no_way cc

@@ -64,14 +64,14 @@ TakeLeaves takes s to t (Ok (Some n)) = takes s to t
 TakeLeaves takes s to t (Err e) = t ≡ s
 
 -- a datagram at the front of a buffer, which beyond it is as it was
-abbrev pub in-front : Option (List ℕ) → List ℕ → List ℕ
-in-front None out = out
-in-front (Some b) out = b ++ drop (length b) out
+abbrev pub in_front : Option (List ℕ) → List ℕ → List ℕ
+in_front None out = out
+in_front (Some b) out = b ++ drop (length b) out
 
 -- what the buffer holds after a take: the ready datagram at its front, if it was taken
 abbrev pub copied : {E : Type 0} → Result (Option ℕ) E → Option (List ℕ) → List ℕ → List ℕ
 copied (Ok None) r out = out
-copied (Ok (Some n)) r out = in-front r out
+copied (Ok (Some n)) r out = in_front r out
 copied (Err e) r out = out
 
 -- MAKING

@@ -25,14 +25,14 @@ pub record Levels {K : Type 0} (o : Ops K) : Type 0 where
   pub admits_level : (s l : ℕ) → o.admits s l ≡ true → (0 < l) × (l < 18446744073709551616)
   -- a part is a value whose only part is itself
   pub part_level : (s l : ℕ) → o.admits s l ≡ true → o.level (o.part s l) s ≡ l
-  pub part_else : (s l t : ℕ) → o.admits s l ≡ true → (t ≢ s) → o.level (o.part s l) t ≡ 0
+  pub part_else : (s l t : ℕ) → o.admits s l ≡ true → t ≢ s → o.level (o.part s l) t ≡ 0
 
 pub record Laws {K : Type 0} (o : Ops K) : Type 0 where
   pub lattice : Lattice o
   pub levels : Levels o
   -- a value is the join of its parts, and none of them is under another
   pub whole : (x : K) → joined o (parts o x) ≡ x
-  pub apart : (x : K) (s t : ℕ) → (s ≢ t) → 0 < o.level x s → 0 < o.level x t
+  pub apart : (x : K) (s t : ℕ) → s ≢ t → 0 < o.level x s → 0 < o.level x t
       → o.under (o.part s (o.level x s)) (o.part t (o.level x t)) ≡ false
   -- a part under a join is under one of the two
   pub prime : (x y : K) (s l : ℕ) → o.admits s l ≡ true → o.under (o.part s l) (o.join x y) ≡ true

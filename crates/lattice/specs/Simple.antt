@@ -1,5 +1,5 @@
 -- The simple kinds: the join takes the larger level at each slot, and under means at most at every slot. Assumes nothing.
-use Rattle.std.specs.Prelude.{◌≡◌, ℕ, zero, suc, ◌<◌, ◌≤◌, min, max, Bool, true, cond, ◌&&◌, leb, Result, ◌==◌, nat_le, nat_lt}
+use Rattle.std.specs.Prelude.{◌≡◌, ℕ, zero, suc, ◌<◌, ◌≤◌, min, max, Bool, true, cond, ◌&&◌, Result, ◌==◌, nat_le, nat_lt}
 use Rattle.lattice.specs.declared.part.Act.{Act}
 use Rattle.lattice.specs.Ops.{Ops}
 
@@ -38,7 +38,7 @@ module _ {K : Type 0} (h : Shape K) where
     admits = λ s l. nat_lt s h.width && (nat_lt 0 l && nat_le l h.cap);
     bottom = simple_bottom;
     part = simple_part;
-    under = λ x y. all_below (λ s. leb (h.level x s) (h.level y s)) h.width;
+    under = λ x y. all_below (λ s. nat_le (h.level x s) (h.level y s)) h.width;
     join = λ x y. h.make (λ s. max (h.level x s) (h.level y s));
     effect = effect;
   }

@@ -1,5 +1,5 @@
 // What is done with values of any kind, from the laws of kinds alone.
-ghost use Rattle.std.specs.Prelude.{◌≡◌, T, length, IfOk, Ok};
+ghost use Rattle.std.specs.Prelude.{◌≡◌, ◌↔◌, IsTrue, length, IfOk, Ok};
 ghost use Rattle.lattice.specs.Faults.{numbered};
 ghost use Rattle.lattice.specs.Laws.{Usable};
 ghost use Rattle.lattice.specs.Least.{Least, DifferenceLeast};
@@ -24,7 +24,7 @@ pub fn walkable<K: Kind>() -> Result<(), KindFault>
 
 // Whether two values are equal, which they are when each lies under the other.
 pub fn equal<K: Kind>(a: &K, b: &K) -> bool
-    ensures { ((T result → a.now ≡ b.now)) × ((a.now ≡ b.now → T result)) }
+    ensures { IsTrue result ↔ (a.now ≡ b.now) }
 {
     a.under(b) && b.under(a)
 }

@@ -4,7 +4,7 @@ use borrow.Author.Tests.{lt-leb}
 use Rattle.channel.specs.declared.fault.ChannelFault.{ChannelFault}
 use Rattle.channel.specs.declared.fault.ChannelFault.TheVariants.{Room}
 use Rattle.channel.specs.Faults.{numbered}
-use Rattle.channel.specs.Meaning.{fetched, TakeLeaves, in-front, copied}
+use Rattle.channel.specs.Meaning.{fetched, TakeLeaves, in_front, copied}
 
 -- what a fetch owes, by what is ready
 abbrev pub Fetch : {S : Type 0} → (S → ℕ → S → Type 0) → S → ℕ → List ℕ → Option (List ℕ) → S → List ℕ → Result (Option ℕ) ChannelFault → Type 0
@@ -32,5 +32,5 @@ module _ {S : Type 0} (takes : S → ℕ → S → Type 0) (s t : S) (to : ℕ) 
   fetched_some b n e m l u v = record {
     answer = ap (λ (x : ℕ). Ok (Some x)) m ∙ sym (ap (fetched (length o)) e ∙ ap (λ (x : Bool). answers x b) (le-leb (length b) (length o) l));
     after = u;
-    out = v ∙ sym (ap (λ (x : Option (List ℕ)). in-front x o) e);
+    out = v ∙ sym (ap (λ (x : Option (List ℕ)). in_front x o) e);
   }

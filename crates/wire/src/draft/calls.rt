@@ -1,5 +1,5 @@
 // The calls on drafts and sealed datagrams.
-ghost use Rattle.std.specs.Prelude.{◌≡◌, ◌+◌, ◌*◌, ◌≤◌, ltb, [], length, IfSome, is_ok, if◌then◌else◌, Ok, Err};
+ghost use Rattle.std.specs.Prelude.{◌≡◌, ◌+◌, ◌*◌, ◌≤◌, nat_lt, [], length, IfSome, is_ok, if◌then◌else◌, Ok, Err};
 ghost use Rattle.lattice.specs.Laws.{Usable};
 ghost use Rattle.lattice.specs.Ops.{parts, walked};
 ghost use Rattle.wire.specs.Bytes.{placed};
@@ -19,7 +19,7 @@ use lattice::part::Part;
 impl Draft {
     // A draft without parts.
     pub fn begin<K: Kind>(header: Header, buf: &mut [u8]) -> Result<Draft, WireFault>
-        ensures answer { numbered result ≡ walked K.ops (if ltb (length buf.old) 12 then Err 11 else Ok (record { header = header; count = 0 })) }
+        ensures answer { numbered result ≡ walked K.ops (if nat_lt (length buf.old) 12 then Err 11 else Ok (record { header = header; count = 0 })) }
         ensures buffer { buf.new ≡ (if is_ok result then placed (delta_bytes header []) buf.old else buf.old) }
     {
         check_width::<K>()?;
