@@ -32,7 +32,8 @@ fn clear(buf: &mut [u8])
 // Replaces the datagram in a receiver's cell, which has room for it.
 fn replace(buf: &mut [u8], receiver: u8, bytes: &[u8])
     requires receiver { receiver < 8 }
-    requires sized { (1 ≤ length bytes.now) × (length bytes.now ≤ 10252) }
+    requires some { 1 ≤ length bytes.now }
+    requires short { length bytes.now ≤ 10252 }
     requires room { length bytes.now + 2 ≤ cell buf.old }
     ensures { Replaces (contents buf.old) receiver bytes.now (contents buf.new) }
 {

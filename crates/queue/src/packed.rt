@@ -45,7 +45,8 @@ pub(crate) fn find(buf: &[u8], receiver: u8) -> (usize, usize)
 
 // Writes a record at a place.
 pub(crate) fn store(buf: &mut [u8], at: usize, receiver: u8, bytes: &[u8])
-    requires { (at + (4 + length bytes.now) ≤ length buf.old) × (length bytes.now ≤ 10252) }
+    requires room { at + (4 + length bytes.now) ≤ length buf.old }
+    requires short { length bytes.now ≤ 10252 }
     ensures { buf.new ≡ take at buf.old ++ (encode (waiting receiver bytes.now) ++ drop (at + (4 + length bytes.now)) buf.old) }
 {
     let len = bytes.len();
@@ -56,7 +57,8 @@ pub(crate) fn store(buf: &mut [u8], at: usize, receiver: u8, bytes: &[u8])
 
 // Closes a gap: what follows it up to `end` moves down.
 pub(crate) fn close(buf: &mut [u8], at: usize, gap: usize, end: usize)
-    requires { (at + gap ≤ end) × (end ≤ length buf.old) }
+    requires inside { at + gap ≤ end }
+    requires within { end ≤ length buf.old }
     ensures { take (end - gap) buf.new ≡ take at buf.old ++ drop (at + gap) (take end buf.old) }
 {
     buf.copy_within(at + gap..end, at);

@@ -59,7 +59,8 @@ impl<'a> Queue<'a> {
 
     // Copies bytes from a place to the front of a buffer.
     fn read(&self, at: usize, len: usize, out: &mut [u8])
-        requires { (at + len ≤ size self.now) × (len ≤ length out.old) }
+        requires held { at + len ≤ size self.now }
+        requires room { len ≤ length out.old }
         ensures { out.new ≡ take len (drop at self.now.buf.now) ++ drop len out.old }
     {
         out[..len].copy_from_slice(&self.buf[at..at + len]);

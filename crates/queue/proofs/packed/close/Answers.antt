@@ -6,4 +6,4 @@ pub returns : goal.returns
 returns c =
     let a = c.args in
     let w = c.copy_within in
-    moved a.buf.now w.new.self a.at a.gap a.end _ c.requires.0 c.requires.1 refl w.ensures.after
+    moved a.buf.now w.new.self a.at a.gap a.end _ c.requires.inside c.requires.within refl w.ensures.after

@@ -15,4 +15,4 @@ returns c =
     let k = (at + 4) - at in
     let m = (at + 4 + len) - (at + 4) in
     ap₂ (λ (x y : List ℕ). put_mid (at + 4) m (put_mid at k xs x) y) c.copy_from_slice.ensures.after c.copy_from_slice-2.ensures.after
-    ∙ stored at k m xs head b refl (omega arith) (omega arith) c.requires.0
+    ∙ stored at k m xs head b refl (omega arith) (omega arith) c.requires.room

@@ -31,7 +31,7 @@ read-requires c =
     let q = c.args.self.now in
     let s = c.search-at in
     let t = taken (take q.used q.buf.now) c.args.receiver s.result.0 s.result.1 s.ensures c.if-len-eq0.false in
-    (omega (arith, t.room, length-take q.used q.buf.now), omega arith)
+    record { held = omega (arith, t.room, length-take q.used q.buf.now); room = omega arith }
 
 pub remove-requires : goal.remove-requires
 remove-requires c =

@@ -5,7 +5,7 @@ use Rattle.queue.proofs.queue.Queue.remove.Goals as goal
 pub close-requires : goal.close-requires
 close-requires c =
     let e = c.end-end in
-    (omega (arith, c.requires, ap length e.ensures.used, length-take e.result c.args.self.now.buf.now), e.ensures.within)
+    record { inside = omega (arith, c.requires, ap length e.ensures.used, length-take e.result c.args.self.now.buf.now); within = e.ensures.within }
 
 pub overflow_sub-self : goal.overflow_sub-self
 overflow_sub-self c =
