@@ -36,10 +36,6 @@ def is_goal_file(path):
     return path.rsplit("/", 1)[-1] in GOALS
 
 
-def code_of(line):
-    return line.split("--", 1)[0] if not line.lstrip().startswith("--") else ""
-
-
 def declared(path):
     """Names that a file of definitions or lemmas declares, and local names of any file."""
     found = set()
