@@ -3,7 +3,7 @@ use channel::channel::Channel;
 use channel::fault::ChannelFault;
 use mailbox::mailbox::Mailbox;
 use queue::queue::Queue;
-use std::process::Abort;
+use std::test::Fail;
 
 // One byte more than the longest datagram has.
 const ROOM: usize = 10_253;
@@ -32,13 +32,21 @@ pub enum Step {
 }
 
 // Makes the calls in order, and compares their answers.
-pub fn run<C: Channel>(rt: &impl Abort, channel: &mut C, steps: &[Step]) {
+pub fn run<C: Channel>(channel: &mut C, steps: &[Step]) -> Result<(), Fail> {
     for step in steps {
         match *step {
-            Step::Put(to, fill, len, answer) => assert_eq!(rt; put(channel, to, fill, len), answer),
-            Step::Take(to, room, answer) => assert_eq!(rt; take(channel, to, room), answer),
+            Step::Put(to, fill, len, answer) => compare(put(channel, to, fill, len), answer)?,
+            Step::Take(to, room, answer) => compare(take(channel, to, room), answer)?,
         }
     }
+    Ok(())
+}
+
+fn compare(got: Answer, wanted: Answer) -> Result<(), Fail> {
+    if got != wanted {
+        return Err(Fail::new(format_args!("{got:?} where {wanted:?} is right")));
+    }
+    Ok(())
 }
 
 fn put<C: Channel>(channel: &mut C, to: u8, fill: u8, len: usize) -> Answer {

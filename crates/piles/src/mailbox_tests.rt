@@ -11,21 +11,20 @@ fn making_asks_for_128_to_65536_bytes(rt: HostRuntime) {
 }
 
 #[test]
-fn a_new_mailbox_is_empty(rt: HostRuntime) -> Result<(), Fail> {
+fn a_new_mailbox_is_empty() -> Result<(), Fail> {
     let mut buf = [1u8; 128];
     let mut cells = mailbox(&mut buf)?;
     for to in 0..8u8 {
-        run(&rt, &mut cells, &[Step::Take(to, 128, Answer::Nothing)]);
+        run(&mut cells, &[Step::Take(to, 128, Answer::Nothing)])?;
     }
     Ok(())
 }
 
 #[test]
-fn a_put_replaces_and_a_take_leaves(rt: HostRuntime) -> Result<(), Fail> {
+fn a_put_replaces_and_a_take_leaves() -> Result<(), Fail> {
     let mut buf = [0u8; 128];
     let mut cells = mailbox(&mut buf)?;
     run(
-        &rt,
         &mut cells,
         &[
             Step::Put(3, 7, 14, Answer::Accepted),
@@ -37,51 +36,41 @@ fn a_put_replaces_and_a_take_leaves(rt: HostRuntime) -> Result<(), Fail> {
             Step::Take(2, 128, Answer::Nothing),
             Step::Take(4, 128, Answer::Nothing),
         ],
-    );
+    )?;
     Ok(())
 }
 
 // A full cell touches neither neighbour.
 #[test]
-fn cells_do_not_meet(rt: HostRuntime) -> Result<(), Fail> {
+fn cells_do_not_meet() -> Result<(), Fail> {
     let mut buf = [0u8; 128];
     let mut cells = mailbox(&mut buf)?;
     for to in 0..8u8 {
-        run(
-            &rt,
-            &mut cells,
-            &[Step::Put(to, 10 + to, 14, Answer::Accepted)],
-        );
+        run(&mut cells, &[Step::Put(to, 10 + to, 14, Answer::Accepted)])?;
     }
     run(
-        &rt,
         &mut cells,
         &[
             Step::Put(3, 99, 14, Answer::Accepted),
             Step::Put(5, 77, 1, Answer::Accepted),
         ],
-    );
+    )?;
     for to in 0..8u8 {
         let fill = if to == 3 { 99 } else { 10 + to };
         if to != 5 {
-            run(
-                &rt,
-                &mut cells,
-                &[Step::Take(to, 128, Answer::Taken(fill, 14))],
-            );
+            run(&mut cells, &[Step::Take(to, 128, Answer::Taken(fill, 14))])?;
         }
     }
-    run(&rt, &mut cells, &[Step::Take(5, 128, Answer::Taken(77, 1))]);
+    run(&mut cells, &[Step::Take(5, 128, Answer::Taken(77, 1))])?;
     Ok(())
 }
 
 // 128 and 135 bytes make cells of 16, for datagrams of up to 14; 65,536 bytes make cells of 8,192.
 #[test]
-fn a_cell_is_an_eighth_rounded_down(rt: HostRuntime) -> Result<(), Fail> {
+fn a_cell_is_an_eighth_rounded_down() -> Result<(), Fail> {
     let mut odd = [0u8; 135];
     let mut cells = mailbox(&mut odd)?;
     run(
-        &rt,
         &mut cells,
         &[
             Step::Put(7, 1, 15, Answer::Refused(12)),
@@ -90,30 +79,28 @@ fn a_cell_is_an_eighth_rounded_down(rt: HostRuntime) -> Result<(), Fail> {
             Step::Put(7, 2, 15, Answer::Refused(12)),
             Step::Take(7, 128, Answer::Taken(1, 14)),
         ],
-    );
+    )?;
     let mut even = [0u8; 136];
     let mut cells = mailbox(&mut even)?;
-    run(&rt, &mut cells, &[Step::Put(7, 1, 15, Answer::Accepted)]);
+    run(&mut cells, &[Step::Put(7, 1, 15, Answer::Accepted)])?;
     let mut most = [0u8; 65_536];
     let mut cells = mailbox(&mut most)?;
     run(
-        &rt,
         &mut cells,
         &[
             Step::Put(0, 3, 8_191, Answer::Refused(12)),
             Step::Put(0, 3, 8_190, Answer::Accepted),
             Step::Take(0, 8_190, Answer::Taken(3, 8_190)),
         ],
-    );
+    )?;
     Ok(())
 }
 
 #[test]
-fn refusals_come_in_their_order(rt: HostRuntime) -> Result<(), Fail> {
+fn refusals_come_in_their_order() -> Result<(), Fail> {
     let mut buf = [0u8; 128];
     let mut cells = mailbox(&mut buf)?;
     run(
-        &rt,
         &mut cells,
         &[
             Step::Put(8, 1, 0, Answer::Refused(4)),
@@ -124,6 +111,6 @@ fn refusals_come_in_their_order(rt: HostRuntime) -> Result<(), Fail> {
             Step::Take(0, 9, Answer::Refused(11)),
             Step::Take(0, 10, Answer::Taken(1, 10)),
         ],
-    );
+    )?;
     Ok(())
 }

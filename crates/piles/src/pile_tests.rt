@@ -7,7 +7,6 @@ use channel::holding::Holding;
 use channel::losing::Losing;
 use meter::Meter;
 use queue::queue::Queue;
-use std::process::Abort;
 use std::test::Fail;
 
 // Losing over holding over a queue.
@@ -21,51 +20,52 @@ fn rough<'a>(
 }
 
 // Puts datagrams filled with 1 to 6 for receiver 5.
-fn put_six<C: Channel>(rt: &impl Abort, channel: &mut C) {
+fn put_six<C: Channel>(channel: &mut C) -> Result<(), Fail> {
     for fill in 1..7u8 {
-        run(rt, channel, &[Step::Put(5, fill, 9, Answer::Accepted)]);
+        run(channel, &[Step::Put(5, fill, 9, Answer::Accepted)])?;
     }
+    Ok(())
 }
 
-fn takes<C: Channel>(rt: &impl Abort, channel: &mut C, fills: &[u8]) {
+fn takes<C: Channel>(channel: &mut C, fills: &[u8]) -> Result<(), Fail> {
     for fill in fills {
-        run(rt, channel, &[Step::Take(5, 128, Answer::Taken(*fill, 9))]);
+        run(channel, &[Step::Take(5, 128, Answer::Taken(*fill, 9))])?;
     }
-    run(rt, channel, &[Step::Take(5, 128, Answer::Nothing)]);
+    run(channel, &[Step::Take(5, 128, Answer::Nothing)])
 }
 
 // The third is lost; of the five that reach the holding layer its bits keep back the first and the third.
 #[test]
-fn losing_over_holding_over_a_queue(rt: HostRuntime) -> Result<(), Fail> {
+fn losing_over_holding_over_a_queue() -> Result<(), Fail> {
     let mut buf = [0u8; 128];
     let mut pile = rough(0b100, 0b101, &mut buf)?;
-    put_six(&rt, &mut pile);
-    takes(&rt, &mut pile, &[2, 1, 5, 4, 6]);
+    put_six(&mut pile)?;
+    takes(&mut pile, &[2, 1, 5, 4, 6])?;
     Ok(())
 }
 
 // The other way up: of six puts the first and the third are kept back; the losing layer drops the third that reaches it.
 #[test]
-fn holding_over_losing_over_a_queue(rt: HostRuntime) -> Result<(), Fail> {
+fn holding_over_losing_over_a_queue() -> Result<(), Fail> {
     let mut buf = [0u8; 128];
     let line = queue(&mut buf)?;
     let mut pile = Holding::new(0b101, Losing::new(0b100, line));
-    put_six(&rt, &mut pile);
-    takes(&rt, &mut pile, &[2, 1, 3, 5, 6]);
+    put_six(&mut pile)?;
+    takes(&mut pile, &[2, 1, 3, 5, 6])?;
     Ok(())
 }
 
 // A mailbox below: only the last that was put is there, again and again.
 #[test]
-fn layers_over_a_mailbox(rt: HostRuntime) -> Result<(), Fail> {
+fn layers_over_a_mailbox() -> Result<(), Fail> {
     let mut buf = [0u8; 128];
     let cells = mailbox(&mut buf)?;
     let mut pile = Losing::new(0b100000, Holding::new(0b1, cells));
-    put_six(&rt, &mut pile);
+    put_six(&mut pile)?;
     for _ in 0..3 {
-        run(&rt, &mut pile, &[Step::Take(5, 128, Answer::Taken(5, 9))]);
+        run(&mut pile, &[Step::Take(5, 128, Answer::Taken(5, 9))])?;
     }
-    run(&rt, &mut pile, &[Step::Take(4, 128, Answer::Nothing)]);
+    run(&mut pile, &[Step::Take(4, 128, Answer::Nothing)])?;
     Ok(())
 }
 
@@ -75,7 +75,6 @@ fn a_refusal_passes_up_through_the_pile(rt: HostRuntime) -> Result<(), Fail> {
     let mut buf = [0u8; 128];
     let mut pile = Meter::new(rough(0, 0, &mut buf)?);
     run(
-        &rt,
         &mut pile,
         &[
             Step::Put(1, 1, 124, Answer::Accepted),
@@ -85,9 +84,9 @@ fn a_refusal_passes_up_through_the_pile(rt: HostRuntime) -> Result<(), Fail> {
             Step::Take(8, 124, Answer::Refused(4)),
             Step::Take(0, 124, Answer::Nothing),
         ],
-    );
+    )?;
     assert_eq!(rt; pile.counts(), (1, 0));
-    run(&rt, &mut pile, &[Step::Take(1, 124, Answer::Taken(1, 124))]);
+    run(&mut pile, &[Step::Take(1, 124, Answer::Taken(1, 124))])?;
     assert_eq!(rt; pile.counts(), (1, 1));
     Ok(())
 }
@@ -104,13 +103,13 @@ fn a_bridge_between_two_channels(rt: HostRuntime) -> Result<(), Fail> {
     let mut far = [0u8; 128];
     let mut from = Meter::new(rough(0b100, 0b101, &mut near)?);
     let mut to = mailbox(&mut far)?;
-    put_six(&rt, &mut from);
+    put_six(&mut from)?;
     for fill in [2u8, 1, 5, 4, 6] {
         assert!(rt; carry(&mut from, &mut to)?);
-        run(&rt, &mut to, &[Step::Take(5, 128, Answer::Taken(fill, 9))]);
+        run(&mut to, &[Step::Take(5, 128, Answer::Taken(fill, 9))])?;
     }
     assert!(rt; !carry(&mut from, &mut to)?);
     assert_eq!(rt; from.counts(), (6, 5));
-    run(&rt, &mut to, &[Step::Take(5, 128, Answer::Taken(6, 9))]);
+    run(&mut to, &[Step::Take(5, 128, Answer::Taken(6, 9))])?;
     Ok(())
 }

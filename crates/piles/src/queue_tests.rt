@@ -12,21 +12,20 @@ fn making_asks_for_128_to_65536_bytes(rt: HostRuntime) {
 
 // What the lent memory held before is never taken for a datagram.
 #[test]
-fn a_new_queue_is_empty(rt: HostRuntime) -> Result<(), Fail> {
+fn a_new_queue_is_empty() -> Result<(), Fail> {
     let mut buf = [1u8; 128];
     let mut line = queue(&mut buf)?;
     for to in 0..8u8 {
-        run(&rt, &mut line, &[Step::Take(to, 128, Answer::Nothing)]);
+        run(&mut line, &[Step::Take(to, 128, Answer::Nothing)])?;
     }
     Ok(())
 }
 
 #[test]
-fn each_receiver_gets_its_own_in_order(rt: HostRuntime) -> Result<(), Fail> {
+fn each_receiver_gets_its_own_in_order() -> Result<(), Fail> {
     let mut buf = [0u8; 128];
     let mut line = queue(&mut buf)?;
     run(
-        &rt,
         &mut line,
         &[
             Step::Put(1, 7, 3, Answer::Accepted),
@@ -41,17 +40,16 @@ fn each_receiver_gets_its_own_in_order(rt: HostRuntime) -> Result<(), Fail> {
             Step::Take(1, 128, Answer::Nothing),
             Step::Take(7, 128, Answer::Taken(5, 1)),
         ],
-    );
+    )?;
     Ok(())
 }
 
 // Each datagram takes its length and 4 bytes: two of 60 fill 128.
 #[test]
-fn a_full_queue_refuses_and_stays_as_it_was(rt: HostRuntime) -> Result<(), Fail> {
+fn a_full_queue_refuses_and_stays_as_it_was() -> Result<(), Fail> {
     let mut buf = [0u8; 128];
     let mut line = queue(&mut buf)?;
     run(
-        &rt,
         &mut line,
         &[
             Step::Put(0, 1, 125, Answer::Refused(12)),
@@ -68,92 +66,77 @@ fn a_full_queue_refuses_and_stays_as_it_was(rt: HostRuntime) -> Result<(), Fail>
             Step::Put(0, 6, 124, Answer::Accepted),
             Step::Take(0, 128, Answer::Taken(6, 124)),
         ],
-    );
+    )?;
     Ok(())
 }
 
 // Far more goes through than the buffer holds at a time, and gaps close wherever they open.
 #[test]
-fn freed_bytes_are_used_again(rt: HostRuntime) -> Result<(), Fail> {
+fn freed_bytes_are_used_again() -> Result<(), Fail> {
     let mut buf = [0u8; 128];
     let mut line = queue(&mut buf)?;
     run(
-        &rt,
         &mut line,
         &[
             Step::Put(0, 200, 20, Answer::Accepted),
             Step::Put(3, 0, 30, Answer::Accepted),
         ],
-    );
+    )?;
     for round in 1..100u8 {
         run(
-            &rt,
             &mut line,
             &[
                 Step::Put(3, round, 40, Answer::Accepted),
                 Step::Put(4, round, 50, Answer::Refused(12)),
             ],
-        );
+        )?;
         let len = if round == 1 { 30 } else { 40 };
         run(
-            &rt,
             &mut line,
             &[Step::Take(3, 128, Answer::Taken(round - 1, len))],
-        );
+        )?;
     }
     run(
-        &rt,
         &mut line,
         &[
             Step::Take(0, 128, Answer::Taken(200, 20)),
             Step::Take(3, 128, Answer::Taken(99, 40)),
             Step::Take(3, 128, Answer::Nothing),
         ],
-    );
+    )?;
     Ok(())
 }
 
 #[test]
-fn the_longest_datagram_goes_through(rt: HostRuntime) -> Result<(), Fail> {
+fn the_longest_datagram_goes_through() -> Result<(), Fail> {
     let mut buf = [0u8; 65_536];
     let mut line = queue(&mut buf)?;
-    run(
-        &rt,
-        &mut line,
-        &[Step::Put(6, 1, 10_253, Answer::Refused(12))],
-    );
+    run(&mut line, &[Step::Put(6, 1, 10_253, Answer::Refused(12))])?;
     for fill in 0..6u8 {
-        run(
-            &rt,
-            &mut line,
-            &[Step::Put(6, fill, 10_252, Answer::Accepted)],
-        );
+        run(&mut line, &[Step::Put(6, fill, 10_252, Answer::Accepted)])?;
     }
     run(
-        &rt,
         &mut line,
         &[
             Step::Put(6, 9, 10_252, Answer::Refused(12)),
             Step::Take(6, 10_251, Answer::Refused(11)),
         ],
-    );
+    )?;
     for fill in 0..6u8 {
         run(
-            &rt,
             &mut line,
             &[Step::Take(6, 10_252, Answer::Taken(fill, 10_252))],
-        );
+        )?;
     }
     Ok(())
 }
 
 // The receiver's refusal is told before the length's, and a refused take leaves the datagram ready.
 #[test]
-fn refusals_come_in_their_order(rt: HostRuntime) -> Result<(), Fail> {
+fn refusals_come_in_their_order() -> Result<(), Fail> {
     let mut buf = [0u8; 128];
     let mut line = queue(&mut buf)?;
     run(
-        &rt,
         &mut line,
         &[
             Step::Put(8, 1, 0, Answer::Refused(4)),
@@ -167,6 +150,6 @@ fn refusals_come_in_their_order(rt: HostRuntime) -> Result<(), Fail> {
             Step::Take(7, 10, Answer::Taken(1, 10)),
             Step::Take(7, 0, Answer::Nothing),
         ],
-    );
+    )?;
     Ok(())
 }

@@ -79,7 +79,7 @@ fn other_bytes_are_refused_by_the_wire(rt: HostRuntime) -> Result<(), Fail> {
         by(Layer::Wire, 14)
     );
     for to in 0..8u8 {
-        run(&rt, &mut line, &[Step::Take(to, 128, Answer::Nothing)]);
+        run(&mut line, &[Step::Take(to, 128, Answer::Nothing)])?;
     }
     Ok(())
 }
@@ -124,12 +124,12 @@ fn the_channel_refuses_last(rt: HostRuntime) -> Result<(), Fail> {
     );
     let sealed = Sealed::ack(header(1, 1));
     write_ack(header(1, 1), &mut buf)?;
-    run(&rt, &mut line, &[Step::Put(2, 7, 124, Answer::Accepted)]);
+    run(&mut line, &[Step::Put(2, 7, 124, Answer::Accepted)])?;
     assert_eq!(rt;
         refusal(send::<Counter, Losing<Queue>>(&sealed, &buf, &mut line)),
         by(Layer::Channel, 12)
     );
-    run(&rt, &mut line, &[Step::Take(2, 128, Answer::Taken(7, 124))]);
+    run(&mut line, &[Step::Take(2, 128, Answer::Taken(7, 124))])?;
     assert_eq!(rt;
         refusal(send::<Counter, Losing<Queue>>(&sealed, &buf, &mut line)),
         None
