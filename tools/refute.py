@@ -118,7 +118,8 @@ def theorem(crate):
 
 def checked(work):
     """How `rt check` ends, its verdict on each function, the declarations that it refuses (by module), and its errors."""
-    # with nothing kept of the crate itself, so that no verdict rests on that of another fault
+    # each fault is checked anew; what the check may still take over, from this or another copy, it finds by the
+    # checksums of all that it read, so it is of the same text
     crate = work / "crates" / "history"
     shutil.rmtree(crate / "out", ignore_errors=True)
     ran = subprocess.run(["rt", "check"], cwd=crate, capture_output=True, text=True)
