@@ -1,7 +1,7 @@
 #!/usr/bin/env bash
 # Shows that the compiler refuses each misuse of tools/misuse: an edit of a crate's source, tried on a copy. A misuse that
-# compiles, or that is refused for another reason than the edit says, fails. Nothing is proved here: the check's first pass over
-# the sources is enough to refuse them.
+# compiles, or that is refused for another reason than the edit says, fails. An edit says the error by its code, as
+# error[mismatched-types]: only the compiler gives those, and a proof that fails has none.
 set -euo pipefail
 cd "$(dirname "$0")/.."
 
@@ -27,6 +27,5 @@ for edit in tools/misuse/*.edit; do
         exit 1
     fi
     grep -qF "$says" "$work/log" || { echo "misuse $name: refused, but not by '$says':"; head -n 5 "$work/log"; exit 1; }
-    grep -qF 'no library was built' "$work/log" || { echo "misuse $name: refused by a proof, not by the compiler"; exit 1; }
     echo "misuse $name: refused by the compiler, as it must be ($says)"
 done
