@@ -77,7 +77,7 @@ def edited(crate, fault):
 
 def claim(crate, function, statement, used, module, answer):
     """A function whose contract is the statement, and the proof of it."""
-    code = f"\npub fn {function}() -> u8\n    ensures {{ {statement} }}\n{{\n    0\n}}\n"
+    code = f"\npub fn {function}()\n    ensures {{ {statement} }}\n{{\n}}\n"
     append(crate / "src" / "lib.rt", code)
     needs = f"use Rattle.history.proofs.{module}.{{{used}}}\nuse Rattle.history.proofs.{function}.Goals as goal\n"
     write(crate / "proofs" / function / "Answers.antt", f"{needs}\npub returns : goal.returns\nreturns c = {answer}\n")

@@ -12,18 +12,15 @@ pub record Got (to n : ℕ) (ready : Option (List ℕ)) (before after : List ℕ
   pub room : n ≤ length before
   pub front : take n after ≡ body
 
-no_way : {A : Type 0} → ◌≡◌ {A = ℕ} 0 1 → A
-no_way e = absurd (omega arith)
-
 module _ (to n : ℕ) (ready : Option (List ℕ)) (before after : List ℕ) where
   fits : (b : List ℕ) (y : Bool) → leb (length b) (length before) ≡ y → ◌≡◌ {A = Result (Option ℕ) ℕ} (Ok (Some n)) (cond y (Ok (Some (length b))) (Err 11)) → (n ≡ length b) × (length b ≤ length before)
   fits b true k e = (cc, leb-true (length b) (length before) k)
-  fits b false k e = no_way cc
+  fits b false k e = cc
 
   by_case : (x : Bool) → leb 8 to ≡ x → (r : Option (List ℕ)) → ready ≡ r → ◌≡◌ {A = Result (Option ℕ) ℕ} (Ok (Some n)) (cond x (Err 4) (fetched (length before) r)) → after ≡ in_front r before
       → Got to n ready before after
-  by_case true x r e a o = no_way cc
-  by_case false x None e a o = no_way cc
+  by_case true x r e a o = cc
+  by_case false x None e a o = cc
   by_case false x (Some b) e a o =
       let f = fits b (leb (length b) (length before)) refl a in
       record {

@@ -1,5 +1,6 @@
 -- The numbers of a channel's refusals. Assumes nothing.
-use Rattle.std.specs.Prelude.{ℕ, Ok, Err, Result}
+use Rattle.std.specs.Prelude.{ℕ, Result}
+use Rattle.std.specs.Result.{result_map_both}
 use Rattle.channel.specs.declared.fault.ChannelFault.{ChannelFault}
 use Rattle.channel.specs.declared.fault.ChannelFault.TheVariants.{Receiver, Room, Space, Size}
 
@@ -11,5 +12,4 @@ number Size = 18
 
 -- an answer, a refusal by its number
 abbrev pub numbered : {A : Type 0} → Result A ChannelFault → Result A ℕ
-numbered (Ok x) = Ok x
-numbered (Err e) = Err (number e)
+numbered r = result_map_both (λ x. x) number r

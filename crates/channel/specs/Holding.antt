@@ -1,16 +1,15 @@
 -- The holding layer: an accepted put reads a bit and turns the pattern; bit 1 keeps the datagram back if none is held.
 -- Assumes nothing but the laws below.
 use Rattle.std.specs.Prelude.{◌≡◌, ℕ, min, Bool, true, false, cond, List, [], ◌∷◌, ◌++◌, take, Some, None, Ok, Err, Option, Result, ◌==◌}
-use Rattle.channel.specs.declared.holding.Held.{Held}
-use Rattle.channel.specs.declared.holding.Held.TheVariants.{Nothing, One}
 use Rattle.channel.specs.declared.holding.Holding.{Holding}
+use Rattle.channel.specs.declared.holding.Tag.{Tag}
 use Rattle.channel.specs.Meaning.{Waiting, put_answer, waiting}
 use Rattle.channel.specs.Patterns.{low_bit, rotated}
 
 -- the datagram that is held
-abbrev pub kept : Held → List ℕ → Option Waiting
-kept Nothing bs = None
-kept (One to len) bs = Some (waiting to (take (min len 10252) bs))
+abbrev pub kept : Option Tag → List ℕ → Option Waiting
+kept None bs = None
+kept (Some t) bs = Some (waiting t.receiver (take (min t.len 10252) bs))
 
 abbrev pub listed : Option Waiting → List Waiting
 listed None = []

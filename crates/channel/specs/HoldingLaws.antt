@@ -1,6 +1,6 @@
 -- The holding layer keeps the laws, whatever is below.
 use Rattle.std.specs.Prelude.{◌≡◌, ℕ, Bool, true, false, cond, ◌⊎◌, List, [], ◌∷◌, ◌++◌, Some, None, Ok, Err, Option, Result, ◌==◌, refl}
-use Rattle.std.proofs.Common.{sym, ap₂, subst, ◌∙◌, inl, inr, arith, eqb-true}
+use Rattle.std.proofs.Common.{sym, ap₂, subst, ◌∙◌, inl, inr, eqb-true}
 use mathlib.Core.List.Memᴰ
 use mathlib.Core.List.{Memᴰ}
 use Rattle.channel.specs.Meaning.{Waiting, Laws, put_answer, waiting}
@@ -8,12 +8,12 @@ use Rattle.channel.specs.Holding.{HoldingPuts, HoldingTakes, KeepsOrPasses, Rele
 
 -- the held datagram is the one that is ready for its receiver
 held_waits : (k : Option Waiting) (to : ℕ) (b : List ℕ) → held_for to k ≡ Some b → Memᴰ (waiting to b) (listed k)
-held_waits None to b e = absurd (let z : ◌≡◌ {A = ℕ} 0 1 = cc in omega arith)
+held_waits None to b e = cc
 held_waits (Some d) to b e = go (d.to == to) (λ x. eqb-true d.to to x) e
   where
     go : (t : Bool) → (t ≡ true → d.to ≡ to) → cond t (Some d.bytes) None ≡ Some b → Memᴰ (waiting to b) (d ∷ [])
     go true x y = let u : d.bytes ≡ b = cc in Memᴰ.head (sym (ap₂ (λ (p : ℕ) (q : List ℕ). waiting p q) (x refl) u))
-    go false x y = absurd (let z : ◌≡◌ {A = ℕ} 0 1 = cc in omega arith)
+    go false x y = cc
 
 module _ {C : Type 0} {waits : C → List Waiting} {ready : C → ℕ → Option (List ℕ)} (denies : C → ℕ → List ℕ → Option ℕ)
     {puts : C → ℕ → List ℕ → C → Type 0} {takes : C → ℕ → C → Type 0} (laws : Laws waits ready puts takes) where

@@ -1,5 +1,6 @@
 pub mod Faults
 pub mod Meaning
+pub mod Memory
 pub mod Patterns
 pub mod Losing
 pub mod Holding

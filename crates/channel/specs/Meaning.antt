@@ -20,6 +20,10 @@ pub record Laws {S : Type 0} (waits : S → List Waiting) (ready : S → ℕ →
   -- after a taking, all that waits waited before
   pub take_waits : (s t : S) (to : ℕ) → takes s to t → (d : Waiting) → Memᴰ d (waits t) → Memᴰ d (waits s)
 
+-- what comes first in every call: the receiver is one of eight
+abbrev pub addressed : ℕ → Result (Unit {0}) ℕ
+addressed to = cond (nat_le 8 to) (Err 4) (Ok tt)
+
 -- PUTTING
 
 -- a datagram has 1 to 10,252 bytes
@@ -73,6 +77,14 @@ abbrev pub copied : {E : Type 0} → Result (Option ℕ) E → Option (List ℕ)
 copied (Ok None) r out = out
 copied (Ok (Some n)) r out = in_front r out
 copied (Err e) r out = out
+
+-- handing a ready datagram over, the last step of a take: its answer, and what the buffer holds then
+abbrev pub handed : ℕ → List ℕ → Result ℕ ℕ
+handed room b = cond (nat_le (length b) room) (Ok (length b)) (Err 11)
+
+abbrev pub copied_over : {A E : Type 0} → Result A E → List ℕ → List ℕ → List ℕ
+copied_over (Ok n) b out = in_front (Some b) out
+copied_over (Err e) b out = out
 
 -- MAKING
 

@@ -2,7 +2,7 @@
 // makes one up.
 ghost use Rattle.std.specs.Prelude.{◌≡◌, ℕ, List, length, Option};
 ghost use Rattle.channel.specs.Faults.{numbered};
-ghost use Rattle.channel.specs.Meaning.{Waiting, Laws, PutLeaves, TakeLeaves, admits, copied, put_answer, take_answer};
+ghost use Rattle.channel.specs.Meaning.{Waiting, Laws, PutLeaves, TakeLeaves, addressed, admits, copied, copied_over, handed, put_answer, take_answer};
 
 use crate::fault::ChannelFault;
 use wire::write::LONGEST;
@@ -41,15 +41,37 @@ pub trait Channel {
         ensures out { out.new ≡ copied result (ready self.old receiver) out.old };
 }
 
-// What every put refuses first.
-pub fn admit(receiver: u8, len: usize) -> Result<(), ChannelFault>
-    ensures { numbered result ≡ admits receiver len }
+// What every call refuses first.
+pub fn known(receiver: u8) -> Result<(), ChannelFault>
+    ensures { numbered result ≡ addressed receiver }
 {
     if receiver >= RECEIVERS {
         return Err(ChannelFault::Receiver);
     }
-    if len < 1 || len > LONGEST {
+    Ok(())
+}
+
+// What every put refuses first. What it grants, the function that stores asks for again, one in each channel: a type that
+// shows it would be made and opened again in the next line.
+pub fn admit(receiver: u8, len: usize) -> Result<(), ChannelFault>
+    ensures { numbered result ≡ admits receiver len }
+{
+    known(receiver)?;
+    if !(1..=LONGEST).contains(&len) {
         return Err(ChannelFault::Space);
     }
     Ok(())
+}
+
+// Copies a ready datagram to the front of a take's buffer, and answers its length.
+pub fn hand_over(datagram: &[u8], out: &mut [u8]) -> Result<usize, ChannelFault>
+    ensures answer { numbered result ≡ handed (length out.old) datagram.now }
+    ensures out { out.new ≡ copied_over result datagram.now out.old }
+{
+    let len = datagram.len();
+    if out.len() < len {
+        return Err(ChannelFault::Room);
+    }
+    out[..len].copy_from_slice(datagram);
+    Ok(len)
 }

@@ -2,45 +2,29 @@
 ghost use Rattle.std.specs.Prelude.{◌≡◌};
 ghost use Rattle.channel.specs.Faults.{number};
 
-use std::error::Error;
-use std::fmt;
+use thiserror::Error;
 
-#[derive(Clone, Copy, PartialEq, Eq, Debug)]
+// Each has the number by which support knows it, and what to tell a person, of which no contract speaks.
+#[derive(Clone, Copy, PartialEq, Eq, Debug, Error)]
 pub enum ChannelFault {
-    // The receiver is 8 or more.
-    Receiver,
-    // The buffer of a take is shorter than the ready datagram.
-    Room,
-    // The channel has no space, or the datagram has 0 or over 10,252 bytes.
-    Space,
-    // The memory lent to a queue or a mailbox is under 128 or over 65,536 bytes.
-    Size,
+    #[error("the receiver is 8 or more")]
+    Receiver = 4,
+    // In a take.
+    #[error("the buffer is shorter than the datagram")]
+    Room = 11,
+    // Also for a datagram of 0 or over 10,252 bytes.
+    #[error("the channel has no space for the datagram")]
+    Space = 12,
+    // At the making of a queue or a mailbox.
+    #[error("the memory lent is under 128 or over 65,536 bytes")]
+    Size = 18,
 }
 
 impl ChannelFault {
-    // The refusal's number, as support knows it.
+    // A `From` for each enum of faults would say the same in more lines.
     pub fn number(self) -> u8
         ensures { result ≡ number self }
     {
-        match self {
-            ChannelFault::Receiver => 4,
-            ChannelFault::Room => 11,
-            ChannelFault::Space => 12,
-            ChannelFault::Size => 18,
-        }
+        self as u8
     }
 }
-
-// What to tell a person. No contract speaks of the words.
-impl fmt::Display for ChannelFault {
-    fn fmt<W: fmt::Write>(&self, f: &mut fmt::Formatter<W>) -> fmt::Result {
-        f.write_str(match self {
-            ChannelFault::Receiver => "the receiver is 8 or more",
-            ChannelFault::Room => "the buffer is shorter than the datagram",
-            ChannelFault::Space => "the channel has no space for the datagram",
-            ChannelFault::Size => "the memory lent is under 128 or over 65,536 bytes",
-        })
-    }
-}
-
-impl Error for ChannelFault {}

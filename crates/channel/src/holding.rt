@@ -1,38 +1,31 @@
 // A layer that keeps datagrams back by a pattern, and so changes their order.
-ghost use Rattle.std.specs.Prelude.{◌≡◌, ◌≤◌, min, length, take, None};
+ghost use Rattle.std.specs.Prelude.{◌≡◌, None};
 ghost use Rattle.channel.specs.Holding.{HoldingPuts, HoldingTakes, Releases, held, holding_denies, holding_ready, holding_waits};
 ghost use Rattle.channel.specs.HoldingLaws.{holding_laws};
 
-use crate::channel::{Channel, admit};
+use crate::channel::{Channel, admit, hand_over};
 use crate::fault::ChannelFault;
 use crate::pattern::{low_bit, turned};
 use wire::write::LONGEST;
 
-#[derive(Drop)]
-pub enum Held {
-    Nothing,
-    One { receiver: u8, len: usize },
+// Whose datagram a layer holds, and how long it is. No ghost field says that it fits the bytes, so that it is cut to them
+// where it is used: code over a layer of such a layer, with lent memory below, would get no generated proof.
+#[derive(Clone, Copy)]
+struct Tag {
+    receiver: u8,
+    len: usize,
 }
 
 // Each accepted put reads the pattern's lowest bit and turns the pattern right by one. Bit 1 keeps the datagram back if
 // none is held; every other put passes below, and then the held datagram, which stays held if it is refused there.
 // The held datagram waits, its bytes at the front of `bytes`, and is ready when nothing below is ready for its receiver.
-// No type says that its length is at most `LONGEST`, so that it is cut to it wherever it is used.
+// Only its tag is an option: an option of the bytes would move 10 KB, and an `ArrayVec` would write blanks over them.
 #[derive(Drop)]
 pub struct Holding<C> {
     pattern: u32,
-    held: Held,
+    held: Option<Tag>,
     bytes: [u8; LONGEST],
     below: C,
-}
-
-// Copies a datagram to the front.
-fn store(front: &mut [u8; LONGEST], datagram: &[u8])
-    requires { length datagram.now ≤ 10252 }
-    ensures { take (min (length datagram.now) 10252) front.new ≡ datagram.now }
-{
-    let len = datagram.len();
-    front[0..len].copy_from_slice(datagram);
 }
 
 impl<C: Channel> Holding<C> {
@@ -45,7 +38,7 @@ impl<C: Channel> Holding<C> {
     {
         Holding {
             pattern,
-            held: Held::Nothing,
+            held: None,
             bytes: [0; LONGEST],
             below,
         }
@@ -56,11 +49,12 @@ impl<C: Channel> Holding<C> {
         ensures pattern { self.new.pattern ≡ self.old.pattern }
         ensures after { Releases C.denies C.puts (held self.old) self.old.below (held self.new) self.new.below }
     {
-        if let Held::One { receiver, len } = &self.held {
-            let bytes = &self.bytes[..(*len).min(LONGEST)];
-            if self.below.put(*receiver, bytes).is_ok() {
-                self.held = Held::Nothing;
-            }
+        let Some(Tag { receiver, len }) = self.held else {
+            return;
+        };
+        let bytes = &self.bytes[..len.min(LONGEST)];
+        if self.below.put(receiver, bytes).is_ok() {
+            self.held = None;
         }
     }
 }
@@ -82,9 +76,9 @@ impl<C: Channel> Channel for Holding<C> {
         let len = bytes.len();
         admit(receiver, len)?;
         match (&mut self.held, low_bit(self.pattern)) {
-            (held @ Held::Nothing, true) => {
-                *held = Held::One { receiver, len };
-                store(&mut self.bytes, bytes);
+            (held @ None, true) => {
+                *held = Some(Tag { receiver, len });
+                self.bytes[..len].copy_from_slice(bytes);
             }
             _ => {
                 self.below.put(receiver, bytes)?;
@@ -99,14 +93,10 @@ impl<C: Channel> Channel for Holding<C> {
         if let Some(len) = self.below.take(receiver, out)? {
             return Ok(Some(len));
         }
-        match &self.held {
-            Held::One { receiver: to, len } if *to == receiver => {
-                let len = (*len).min(LONGEST);
-                if out.len() < len {
-                    return Err(ChannelFault::Room);
-                }
-                out[0..len].copy_from_slice(&self.bytes[0..len]);
-                self.held = Held::Nothing;
+        match self.held {
+            Some(Tag { receiver: to, len }) if to == receiver => {
+                let len = hand_over(&self.bytes[..len.min(LONGEST)], out)?;
+                self.held = None;
                 Ok(Some(len))
             }
             _ => Ok(None),

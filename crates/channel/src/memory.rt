@@ -1,6 +1,7 @@
 // The memory that is lent to a queue or a mailbox.
 ghost use Rattle.std.specs.Prelude.{◌≡◌};
 ghost use Rattle.channel.specs.Meaning.{lendable};
+ghost use Rattle.channel.specs.Memory.{Fitted};
 ghost use Rattle.channel.specs.declared.fault.ChannelFault.TheVariants.{Size};
 
 use crate::fault::ChannelFault;
@@ -9,13 +10,6 @@ use crate::fault::ChannelFault;
 const SMALLEST: usize = 128;
 
 const LARGEST: usize = 65_536;
-
-// Whether a channel can be made in so many bytes.
-pub fn is_lendable(len: usize) -> bool
-    ensures { result ≡ lendable len }
-{
-    len >= SMALLEST && len <= LARGEST
-}
 
 // Memory in which no channel could be made, given back as it was.
 #[derive(Drop)]
@@ -29,5 +23,23 @@ impl<'a> From<Unfit<'a>> for ChannelFault {
 
     fn from(unfit: Unfit<'a>) -> ChannelFault {
         ChannelFault::Size
+    }
+}
+
+// Whether a channel can be made in so many bytes.
+pub fn is_lendable(len: usize) -> bool
+    ensures { result ≡ lendable len }
+{
+    (SMALLEST..=LARGEST).contains(&len)
+}
+
+// The memory, if a channel can be made in it.
+pub fn fit<'a>(memory: &'a mut [u8]) -> Result<&'a mut [u8], Unfit<'a>>
+    ensures { Fitted memory.old result }
+{
+    if is_lendable(memory.len()) {
+        Ok(memory)
+    } else {
+        Err(Unfit { memory })
     }
 }

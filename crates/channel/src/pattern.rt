@@ -1,4 +1,4 @@
-// The patterns of the layers.
+// The patterns of the layers: plain numbers, as a caller gives them and contracts read them.
 ghost use Rattle.std.specs.Prelude.{◌≡◌};
 ghost use Rattle.channel.specs.Patterns.{low_bit, rotated};
 
@@ -10,6 +10,7 @@ pub(crate) fn low_bit(pattern: u32) -> bool
 }
 
 // The pattern after an accepted put.
+#[tactic(auto, using(crate::proofs::Turns::turns))]
 pub(crate) fn turned(pattern: u32) -> u32
     ensures { result ≡ rotated pattern }
 {

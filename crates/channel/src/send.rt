@@ -9,20 +9,21 @@ use crate::channel::Channel;
 use crate::fault::ChannelFault;
 use lattice::kind::Kind;
 use lattice::refusal::{Layer, Refusal};
-use std::error::Error;
-use std::fmt;
+use thiserror::Error;
 use wire::draft::Sealed;
 use wire::fault::WireFault;
 
-// Why sending declines: a fault of the layer that found it.
-#[derive(Clone, Copy, PartialEq, Eq, Debug)]
+// Why sending declines: a fault of the layer that found it, with its words.
+#[derive(Clone, Copy, PartialEq, Eq, Debug, Error)]
 pub enum SendFault {
+    #[error(transparent)]
     Wire(WireFault),
+    #[error(transparent)]
     Channel(ChannelFault),
 }
 
 impl SendFault {
-    // The layer that refused, and by which number.
+    // The layer that refused, and by which number. A `From` would be as long, and want the type written at each call.
     pub fn refusal(self) -> Refusal
         ensures { result ≡ refusal self }
     {
@@ -39,6 +40,7 @@ impl SendFault {
     }
 }
 
+// By hand, since `send`'s contract has to know which case a `?` makes.
 impl From<WireFault> for SendFault {
     ghost from_gives = { λ e r. r ≡ from_wire e };
 
@@ -54,18 +56,6 @@ impl From<ChannelFault> for SendFault {
         SendFault::Channel(fault)
     }
 }
-
-// What to tell a person. No contract speaks of the words.
-impl fmt::Display for SendFault {
-    fn fmt<W: fmt::Write>(&self, f: &mut fmt::Formatter<W>) -> fmt::Result {
-        match self {
-            SendFault::Wire(fault) => write!(f, "{fault}"),
-            SendFault::Channel(fault) => write!(f, "{fault}"),
-        }
-    }
-}
-
-impl Error for SendFault {}
 
 // Puts the bytes of a sealed datagram for the receiver that its header names, once they are found to be a datagram of
 // its header and count. The datagram is lent, so that a sending that found no space can be tried again.

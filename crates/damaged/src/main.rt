@@ -22,7 +22,7 @@ fn main(rt: HostRuntime) -> anyhow::Result<()> {
 
 fn try_all(rt: &HostRuntime) -> anyhow::Result<()> {
     let good = ack(rt.alloc(), header(1, 0, 1))?;
-    damage::series::<Counter>(&mut Trials::new(rt, 1), &good)?;
+    Trials::<Counter>::new(rt, 1, &good).run()?;
     try_delta::<Counter>(rt, 2, header(0, 1, 1), &[(0, 5)])?;
     let most = u32::MAX;
     try_delta::<Counter>(
@@ -49,5 +49,5 @@ fn try_delta<K: Kind>(
     parts: &[(u16, u64)],
 ) -> anyhow::Result<()> {
     let good = delta::<K>(rt.alloc(), header, parts)?;
-    damage::series::<K>(&mut Trials::new(rt, datagram), &good)
+    Trials::<K>::new(rt, datagram, &good).run()
 }

@@ -1,19 +1,17 @@
 // Whole datagrams, as the library writes them.
-use anyhow::anyhow;
+use anyhow::ensure;
 use lattice::kind::Kind;
 use lattice::part::Part;
 use std::alloc::Global;
 use wire::datagram::Header;
+use wire::fault::WireFault;
 use wire::write::{write_ack, write_delta};
 
 // Room for a delta of five parts.
 const ROOM: usize = 62;
 
 pub fn ack(heap: Global, header: Header) -> anyhow::Result<Vec<u8>> {
-    let mut bytes = vec![in heap; 0u8; ROOM]?;
-    let len = write_ack(header, &mut bytes)?;
-    bytes.truncate(len);
-    Ok(bytes)
+    written(heap, |buf| write_ack(header, buf))
 }
 
 pub fn delta<K: Kind>(
@@ -22,22 +20,29 @@ pub fn delta<K: Kind>(
     parts: &[(u16, u64)],
 ) -> anyhow::Result<Vec<u8>> {
     let value = value_of::<K>(parts)?;
+    written(heap, |buf| write_delta(header, &value, buf))
+}
+
+// The front of a buffer that `write` wrote.
+fn written<F: FnOnce(&mut [u8]) -> Result<usize, WireFault>>(
+    heap: Global,
+    write: F,
+) -> anyhow::Result<Vec<u8>>
+    requires { F.IsAlwaysCallable write }
+{
     let mut bytes = vec![in heap; 0u8; ROOM]?;
-    let len = write_delta(header, &value, &mut bytes)?;
+    let len = write(&mut bytes)?;
     bytes.truncate(len);
     Ok(bytes)
 }
 
 fn value_of<K: Kind>(parts: &[(u16, u64)]) -> anyhow::Result<K> {
     let mut value = K::bottom();
-    for (slot, level) in parts {
-        let part = Part {
-            slot: *slot,
-            level: *level,
-        };
-        if !value.join_part(part) {
-            return Err(anyhow!("a part is not admitted"));
-        }
+    for &(slot, level) in parts {
+        ensure!(
+            value.join_part(Part { slot, level }),
+            "a part is not admitted"
+        );
     }
     Ok(value)
 }

@@ -1,8 +1,7 @@
 -- A deliver keeps the invariant. Assumes nothing.
 use Rattle.std.proofs.Common.{◌≡◌, ℕ, suc, ◌-◌, ◌<◌, ◌≤◌, min, max, Bool, true, false, cond, eqb, ltb, leb, ◌≢◌, List, [], ◌∷◌, ◌++◌, length, get_or, take, drop, set, Some, None, Ok, Err, Option, Result, sym, refl, ap, ◌∙◌, subst, inl, inr, ⊎_elim, arith, length-drop, length-set, ltb-true, lt-ltb, eq-eqb, ne_eqb}
-use Rattle.std.proofs.lemmas.Bool.{cond-true, cond_both, cases_eq, cases_lt, and_from, not_from_false}
-use Rattle.std.proofs.lemmas.List.{get_or-set_same, get_or-set_other}
-use Rattle.lattice.specs.Laws.{Usable}
+use Rattle.std.proofs.lemmas.Bool.{cond-true, cond_both, cases_lt, and_from, not_from_false}
+use Rattle.lattice.specs.Laws.{Laws, Usable}
 use Rattle.lattice.specs.Ops.{Ops, difference}
 use Rattle.lattice.specs.declared.refusal.Layer.TheVariants.{Replica as of_replica}
 use Rattle.lattice.specs.declared.refusal.Refusal.{Refusal}
@@ -17,8 +16,8 @@ use Rattle.history.specs.Group.{Group, Replica, header, refusal, size, replica, 
 use Rattle.history.specs.Book.{Page, Account, Book, deliver, worth, but, older, marked, with_page, entered, entered_taken, entered_datagram, delivery_grew}
 use Rattle.history.specs.Lines.{Line, Lawful, Takes, got}
 use Rattle.history.specs.History.{Accepts, Taken, Refused, Delivers, NewestOf, NewestRead, NewestTaken}
-use Rattle.history.proofs.Joins.{Under, Order, self, chain, join_right, join_least}
-use Rattle.history.proofs.Invariant.{but_same, but_other, past, held, Extends, Marked, Links, Good, Says, Sound, Inv, marks_on, links_on, links_drop}
+use Rattle.history.proofs.Joins.{Under}
+use Rattle.history.proofs.Invariant.{but_same, but_other, set_all, past, held, Extends, Marked, Links, Good, Says, Sound, Inv, marked_on, links_on, links_drop}
 use Rattle.history.proofs.Growth.{NextPages, next_extends, next_sane, next_held, still_extends, still_sane, Recorded, recorded, grown_good, replaced, rerouted}
 use Rattle.history.proofs.Reading.{reads_as}
 use Rattle.history.proofs.Steps.{extends_self, size_kept, newest_ring, put_sound, After}
@@ -29,7 +28,7 @@ lowest_top own top i (m ∷ ms) =
     let below = lowest_top own top (suc i) ms in
     cond_both (eqb i own) (lowest own top (suc i) ms) (min m (lowest own top (suc i) ms)) (λ x. x ≤ top) (λ e. below) (λ e. omega arith)
 
-module _ {V : Type 0} (o : Ops V) (L : Order o) where
+module _ {V : Type 0} (o : Ops V) (L : Laws o) where
   -- a mark raised
   raised_good : (P : ℕ → Page V) (n r : ℕ) (p : Replica V) (from k : ℕ) → Good o P r p → from < 8 → k ≤ (P r).age → Under o (past o P r k) (held o P from) → Good o (but P r (marked (P r) from k)) r (raised n r p from k)
   unfolding raised marked
@@ -41,7 +40,7 @@ module _ {V : Type 0} (o : Ops V) (L : Order o) where
     links = subst (λ i. Links o Q r i (drop (low - p.oldest) p.ring)) (omega arith) (links_drop o L Q r p.oldest (low - p.oldest) p.ring (links_on o L P Q ext r p.oldest p.ring g.links));
     marks_long = length-set p.marks from top ∙ g.marks_long;
     marks_are = λ j l. are j l ∙ sym (ap (λ (y : Page V). y.marks j) page);
-    marks_good = λ j l. marks_on o L P Q ext r j (get_or ms j 0) (goods j l);
+    marks_good = λ j l. marked_on o L P Q ext r j (get_or ms j 0) (goods j l);
   }
     where
       top : ℕ
@@ -63,21 +62,19 @@ module _ {V : Type 0} (o : Ops V) (L : Order o) where
       page = but_same P r (marked (P r) from k)
 
       ext : Extends o P Q
-      ext = still_extends o L P r (marked (P r) from k) refl refl
+      ext = still_extends o L P r (marked (P r) from k).marks
 
       inside : from < length p.marks
       inside = let e = g.marks_long in omega arith
 
       are : (j : ℕ) → j < 8 → get_or ms j 0 ≡ but (P r).marks from (max ((P r).marks from) k) j
-      are j l =
-          ⊎_elim (λ e. subst (λ i. get_or ms i 0 ≡ but (P r).marks from (max ((P r).marks from) k) i) (sym e) (get_or-set_same p.marks from top 0 inside ∙ ap (λ i. max i k) (g.marks_are from h) ∙ sym (but_same (P r).marks from (max ((P r).marks from) k)))) (λ ne. get_or-set_other p.marks from j top 0 ne ∙ g.marks_are j l ∙ sym (but_other (P r).marks from (max ((P r).marks from) k) j ne)) (cases_eq j from)
+      are = set_all p.marks from top 0 (λ j m. j < 8 → m ≡ but (P r).marks from (max ((P r).marks from) k) j) inside (λ l. ap (λ i. max i k) (g.marks_are from h) ∙ sym (but_same (P r).marks from (max ((P r).marks from) k))) (λ j ne l. g.marks_are j l ∙ sym (but_other (P r).marks from (max ((P r).marks from) k) j ne))
 
       risen : Marked o P r from top
       risen = ⊎_elim (λ l. subst (Marked o P r from) (omega arith) (record { reached = reach; there = there })) (λ l. subst (Marked o P r from) (omega arith) (g.marks_good from h)) (cases_lt (mark p from) k)
 
       goods : (j : ℕ) → j < 8 → Marked o P r j (get_or ms j 0)
-      goods j l =
-          ⊎_elim (λ e. subst (λ i. Marked o P r i (get_or ms i 0)) (sym e) (subst (Marked o P r from) (sym (get_or-set_same p.marks from top 0 inside)) risen)) (λ ne. subst (Marked o P r j) (sym (get_or-set_other p.marks from j top 0 ne)) (g.marks_good j l)) (cases_eq j from)
+      goods = set_all p.marks from top 0 (λ j m. j < 8 → Marked o P r j m) inside (λ l. risen) (λ j ne l. g.marks_good j l)
 
   module _ {C : Type 0} (U : Usable o) (R : ReadsBack o) (ch : Line C) (M : Lawful ch) where
     -- what is sound reads back, and is for `r`
@@ -99,11 +96,15 @@ module _ {V : Type 0} (o : Ops V) (L : Order o) where
     unfolding accepting
     accepted_is P g ws i limit r p bytes s =
         let h = header_of s.datagram in
-        let two = reads_as o U bytes s.datagram (reads P g ws i r bytes s) in
+        let two = reads_as o bytes s.datagram (reads P g ws i r bytes s) in
         let test : addressed (size g) r h ≡ true = and_from _ _ (lt-ltb h.from (size g) s.from_in) (and_from _ _ (lt-ltb h.to (size g) s.to_in) (and_from _ _ (not_from_false _ (ne_eqb h.from h.to s.apart)) (eq-eqb h.to r s.for))) in
         ap (accept_opened o (size g) limit r p bytes) two.opens
         ∙ cond-true (addressed (size g) r h) (accept_datagram o (size g) limit r p (body o bytes two.sort h)) (declines (refusal of_replica 15)) test
         ∙ ap (accept_datagram o (size g) limit r p) two.rest
+
+    -- a group and a channel that are what they were
+    unmoved : (P : ℕ → Page V) (g g' : Group V) (c d : C) → Inv o (ch.waits c) P g → g' ≡ g → d ≡ c → Inv o (ch.waits d) P g'
+    unmoved P g g' c d i grp chn = subst (λ x. Inv o (ch.waits d) P x) (sym grp) (subst (λ x. Inv o (ch.waits x) P g) (sym chn) i)
 
     -- what is then known, by the datagram read
     abbrev Got : Book V → ℕ → Result Delivered Refusal → Group V → C → Result (Datagram V) ℕ → Type 0
@@ -145,7 +146,7 @@ module _ {V : Type 0} (o : Ops V) (L : Order o) where
           v_held = subst (λ x. Under o v x) is_good.value_is u
 
           known : Under o (past o P from k) (held o P r)
-          known = chain o L (past o P from k) (o.join (held o P r) v) (held o P r) y.2 (join_least o L (held o P r) v (held o P r) (self o L (held o P r)) v_held)
+          known = L.lattice.trans (past o P from k) (o.join (held o P r) v) (held o P r) y.2 (L.lattice.least (held o P r) v (held o P r) (L.lattice.refl (held o P r)) v_held)
 
       -- a deliver that grows the replica
       grown_got : (from to k : ℕ) (v : V) (d : C) (answer : Result Delivered Refusal) (g' : Group V) → from < size g → from ≢ r → Says o P (delta (header from r k) v) → p.clock ≢ 4294967295 → Accepts o ch r (joins Grown (extended o g.limit p v from) (header from to k)) answer g m g' d → Got b r answer g' d (Ok (delta (header from to k) v))
@@ -168,7 +169,7 @@ module _ {V : Type 0} (o : Ops V) (L : Order o) where
           q = extended o g.limit p v from
 
           new : Good o Q r q
-          new = grown_good o L P g.limit r p v from more i.room is_good top y.1 y.2 (inr (chain o L v (past o P from k) (held o P from) y.1 (i.sane.rises from k y.0)))
+          new = grown_good o L P g.limit r p v from more i.room is_good top y.1 y.2 (inr (L.lattice.trans v (past o P from k) (held o P from) y.1 (i.sane.rises from k y.0)))
 
           kept : Inv o (ch.waits m) Q (with_replica g r q)
           kept = replaced o L (ch.waits m) P Q g r q i h (λ s n. but_other P r (older (P r) more) s n) ext (next_sane o L P r more i.sane) new
@@ -180,7 +181,7 @@ module _ {V : Type 0} (o : Ops V) (L : Order o) where
           reach = let c = ext.ages from in let e = y.0 in omega arith
 
           known : Under o (past o Q from k) (held o Q r)
-          known = subst (λ x. Under o x (held o Q r)) (sym (ext.pasts from k y.0)) (subst (λ x. Under o (past o P from k) x) (sym (next_held o L P r more)) (join_right o L (held o P r) (worth o more)))
+          known = subst (λ x. Under o x (held o Q r)) (sym (ext.pasts from k y.0)) (subst (λ x. Under o (past o P from k) x) (sym (next_held o L P r more)) (L.lattice.above_right (held o P r) (worth o more)))
 
           ring : NewestOf o b r true v from (with_replica g r q)
           ring = subst (λ x. (front : List (Kept V)) × ((replica o (with_replica g r q) r).ring ≡ front ++ record { delta = difference o v x; origin = from } ∷ [])) is_good.value_is (newest_ring o L g r g.limit p v from i.room h)
@@ -188,7 +189,7 @@ module _ {V : Type 0} (o : Ops V) (L : Order o) where
       delta_got : (from to k : ℕ) (v : V) (d : C) (answer : Result Delivered Refusal) (g' : Group V) → from < size g → from ≢ r → Says o P (delta (header from r k) v) → (x : Recording V) → Recorded o L g.limit p v from x → Accepts o ch r (accept_ends o p (header from to k) x) answer g m g' d → Got b r answer g' d (Ok (delta (header from to k) v))
       delta_got from to k v d answer g' a ne y stays u acc = same_got from to k v d answer g' a ne y u acc
       delta_got from to k v d answer g' a ne y (grows q) u acc = grown_got from to k v d answer g' a ne y u.1 (subst (λ z. Accepts o ch r (joins Grown z (header from to k)) answer g m g' d) u.0 acc)
-      delta_got from to k v d answer g' a ne y at_end u (ans, grp, chn) = subst (λ x. Got b r x g' d (Ok (delta (header from to k) v))) (sym ans) (subst (λ x. Inv o (ch.waits d) P x) (sym grp) (subst (λ x. Inv o (ch.waits x) P g) (sym chn) i), tt)
+      delta_got from to k v d answer g' a ne y at_end u (ans, grp, chn) = subst (λ x. Got b r x g' d (Ok (delta (header from to k) v))) (sym ans) (unmoved P g g' m d i grp chn, tt)
 
       ack_got : (from to k : ℕ) (d : C) (answer : Result Delivered Refusal) (g' : Group V) → from < size g → Says o P (ack (header from r k)) → Accepts o ch r (cond (leb k p.clock) (hears (raised (size g) r p from k) (header from to k)) (declines (refusal of_replica 17))) answer g m g' d → Got b r answer g' d (Ok (ack (header from to k)))
       unfolding with_page marked
@@ -197,15 +198,12 @@ module _ {V : Type 0} (o : Ops V) (L : Order o) where
           Q : ℕ → Page V
           Q = but P r (marked (P r) from k)
 
-          unfolded_page : Q ≡ (with_page b r (marked (P r) from k)).pages
-          unfolded_page = refl
-
           heard_inv : Inv o (ch.waits m) Q (with_replica g r (raised (size g) r p from k))
-          heard_inv = replaced o L (ch.waits m) P Q g r (raised (size g) r p from k) i h (λ s n. but_other P r (marked (P r) from k) s n) (still_extends o L P r (marked (P r) from k) refl refl) (still_sane o L P r (marked (P r) from k) refl refl i.sane) (raised_good P (size g) r p from k (i.good r h) (let few = i.few in omega arith) y.0 y.1)
+          heard_inv = replaced o L (ch.waits m) P Q g r (raised (size g) r p from k) i h (λ s n. but_other P r (marked (P r) from k) s n) (still_extends o L P r (marked (P r) from k).marks) (still_sane o L P r (marked (P r) from k).marks i.sane) (raised_good P (size g) r p from k (i.good r h) (let few = i.few in omega arith) y.0 y.1)
 
           go : (t : Bool) → Accepts o ch r (cond t (hears (raised (size g) r p from k) (header from to k)) (declines (refusal of_replica 17))) answer g m g' d → Got b r answer g' d (Ok (ack (header from to k)))
-          go true (ans, grp, chn) = subst (λ x. Got b r x g' d (Ok (ack (header from to k)))) (sym ans) (subst (λ x. Inv o (ch.waits d) (with_page b r (marked (P r) from k)).pages x) (sym grp) (subst (λ x. Inv o (ch.waits x) (with_page b r (marked (P r) from k)).pages (with_replica g r (raised (size g) r p from k))) (sym chn) (subst (λ z. Inv o (ch.waits m) z (with_replica g r (raised (size g) r p from k))) unfolded_page heard_inv)), tt)
-          go false (ans, grp, chn) = subst (λ x. Got b r x g' d (Ok (ack (header from to k)))) (sym ans) (subst (λ x. Inv o (ch.waits d) P x) (sym grp) (subst (λ x. Inv o (ch.waits x) P g) (sym chn) i), tt)
+          go true (ans, grp, chn) = subst (λ x. Got b r x g' d (Ok (ack (header from to k)))) (sym ans) (unmoved Q (with_replica g r (raised (size g) r p from k)) g' m d heard_inv grp chn, tt)
+          go false (ans, grp, chn) = subst (λ x. Got b r x g' d (Ok (ack (header from to k)))) (sym ans) (unmoved P g g' m d i grp chn, tt)
 
       datagram_got : (z : Datagram V) (d : C) (answer : Result Delivered Refusal) (g' : Group V) → (header_of z).to ≡ r → (header_of z).from < size g → (header_of z).from ≢ (header_of z).to → Says o P z → Accepts o ch r (accept_datagram o (size g) g.limit r p (Ok z)) answer g m g' d → Got b r answer g' d (Ok z)
       datagram_got (delta h v) d answer g' e a ne y acc = delta_got h.from h.to h.number v d answer g' a (λ k. ne (k ∙ sym e)) (subst (λ j. Says o P (delta (header h.from j h.number) v)) e y) (recording o g.limit p v h.from) (recorded o L g.limit p v h.from) acc
@@ -219,15 +217,12 @@ module _ {V : Type 0} (o : Ops V) (L : Order o) where
         let after : Inv o (ch.waits m) b.pages g = rerouted o L (ch.waits c) (ch.waits m) b.pages g i (λ x n. inl (M.take_waits c m r take x n)) in
         subst (Got b r answer g' d) (sym (reads b.pages g (ch.waits c) i r bytes s)) (datagram_got b g m after r h s.datagram d answer g' s.for s.from_in s.apart s.says (subst (λ x. Accepts o ch r x answer g m g' d) (accepted_is b.pages g (ch.waits c) i g.limit r (replica o g r) bytes s) acc))
 
-    unmoved : (b : Book V) (g g' : Group V) (c m d : C) → Inv o (ch.waits c) b.pages g → m ≡ c → g' ≡ g → d ≡ m → Inv o (ch.waits d) b.pages g'
-    unmoved b g g' c m d i e grp chn = subst (λ x. Inv o (ch.waits d) b.pages x) (sym grp) (subst (λ x. Inv o (ch.waits x) b.pages g) (sym (chn ∙ e)) i)
-
     -- the book and the newest delta after a deliver
     abbrev DeliveredSo : Book V → ℕ → Result Delivered Refusal → Option (List ℕ) → C → Group V → Type 0
     DeliveredSo b r answer t d g = Inv o (ch.waits d) (entered_taken o b r answer t).pages g × NewestTaken o b r (delivery_grew answer) t g
 
     idle : (b : Book V) (g g' : Group V) (c m d : C) (r : ℕ) (t : Option (List ℕ)) (answer : Result Delivered Refusal) → Inv o (ch.waits c) b.pages g → t ≡ None → m ≡ c → g' ≡ g → d ≡ m → DeliveredSo b r answer t d g'
-    idle b g g' c m d r t answer i none-taken e grp chn = subst (λ x. DeliveredSo b r answer x d g') (sym none-taken) (unmoved b g g' c m d i e grp chn, tt)
+    idle b g g' c m d r t answer i none-taken e grp chn = subst (λ x. DeliveredSo b r answer x d g') (sym none-taken) (unmoved b.pages g g' c d i grp (chn ∙ e), tt)
 
     taken_keeps : (b : Book V) (g g' : Group V) (c m d : C) (r room : ℕ) (a : Result (Option ℕ) ℕ) (t : Option (List ℕ)) (answer : Result Delivered Refusal) → Inv o (ch.waits c) b.pages g → r < size g → Takes ch c r room a m → t ≡ got a (ch.ready c r) → Taken o ch r a t answer g m g' d → DeliveredSo b r answer t d g'
     taken_keeps b g g' c m d r room (Err n) t answer i h take e (ans, grp, chn) = idle b g g' c m d r t answer i e take.1 grp chn

@@ -4,30 +4,43 @@ use mathlib.Core.List.{Memᴰ}
 use lib.Seq.{drop-append-le}
 use borrow.Author.Tests.{eqb-false}
 use Rattle.std.proofs.lemmas.Bool.{cond_both, cases_eq}
-use Rattle.std.proofs.lemmas.List.{get_or-set_same, get_or-set_other, length_push}
+use Rattle.std.proofs.lemmas.List.{length_push}
+use Rattle.lattice.specs.Laws.{Laws}
 use Rattle.lattice.specs.Ops.{Ops, difference}
+use Rattle.lattice.proofs.Differences.{difference_under}
+use Rattle.lattice.proofs.Order.{join_mono, under_left}
 use Rattle.channel.specs.Meaning.{Waiting}
 use Rattle.history.specs.declared.kept.Kept.{Kept}
 use Rattle.history.specs.Group.{Group, Replica, size, replica, mark, blank, with_replica, Recording, stays, grows, at_end, newest, extended, recording}
 use Rattle.history.specs.Book.{Page, Account, worth, but, older}
-use Rattle.history.proofs.Joins.{Under, Order, self, chain, both_ways, join_left, join_right, join_least, of_equal, to_left, join_monotone, worth_union, difference_under, difference_lowest, difference_joins, difference_none}
-use Rattle.history.proofs.Invariant.{but_same, but_other, but_all, past, held, Extends, Sane, Link, Links, Good, Sound, Inv, links_on, good_on, marks_on, sound_on, links_drop, links_push}
+use Rattle.history.proofs.Joins.{Under, of_equal, worth_union, difference_lowest, difference_joins, difference_none}
+use Rattle.history.proofs.Invariant.{but_same, but_other, but_all, set_all, past, held, Extends, Sane, Link, Links, Good, Sound, Inv, links_on, good_on, marked_on, sound_on, links_drop, links_push}
 
-module _ {V : Type 0} (o : Ops V) (L : Order o) where
+module _ {V : Type 0} (o : Ops V) (L : Laws o) where
+  -- what is sane stays so where each page is at most one age older
+  sane_on : (P Q : ℕ → Page V) → Extends o P Q → ((r : ℕ) → (Q r).age ≤ (P r).age + 1) → Sane o P → Sane o Q
+  sane_on P Q x one s = record {
+    start = λ r. x.pasts r 0 (omega arith) ∙ s.start r;
+    rises = λ r k h. ⊎_elim (λ e. of_equal o L (past o Q r k) (held o Q r) (ap (past o Q r) e)) (λ ne. before r k (let a = one r in omega arith)) (cases_eq k (Q r).age);
+  }
+    where
+      before : (r k : ℕ) → k ≤ (P r).age → Under o (past o Q r k) (held o Q r)
+      before r k h = subst (λ v. Under o v (held o Q r)) (sym (x.pasts r k h)) (L.lattice.trans (past o P r k) (held o P r) (held o Q r) (s.rises r k h) (x.helds r))
+
   -- Pages one age older
 
   module _ (P : ℕ → Page V) (r : ℕ) (more : Account V) where
     abbrev pub NextPages : ℕ → Page V
     NextPages = but P r (older (P r) more)
 
-    pub next_page : NextPages r ≡ older (P r) more
+    next_page : NextPages r ≡ older (P r) more
     next_page = but_same P r (older (P r) more)
 
-    pub next_age : (NextPages r).age ≡ (P r).age + 1
+    next_age : (NextPages r).age ≡ (P r).age + 1
     unfolding older
     next_age = ap (λ (y : Page V). y.age) next_page
 
-    pub next_marks : (j : ℕ) → (NextPages r).marks j ≡ (P r).marks j
+    next_marks : (j : ℕ) → (NextPages r).marks j ≡ (P r).marks j
     unfolding older
     next_marks j = ap (λ (y : Page V). y.marks j) next_page
 
@@ -43,7 +56,7 @@ module _ {V : Type 0} (o : Ops V) (L : Order o) where
     unfolding older
     older_age = refl
 
-    pub next_old : (k : ℕ) → k ≤ (P r).age → past o NextPages r k ≡ past o P r k
+    next_old : (k : ℕ) → k ≤ (P r).age → past o NextPages r k ≡ past o P r k
     next_old k h = ap (λ (y : Page V). worth o (y.at k)) next_page ∙ ap (worth o) (older_old k h)
 
     older_held : worth o ((older (P r) more).at (older (P r) more).age) ≡ o.join (held o P r) (worth o more)
@@ -52,49 +65,34 @@ module _ {V : Type 0} (o : Ops V) (L : Order o) where
     pub next_held : held o NextPages r ≡ o.join (held o P r) (worth o more)
     next_held = ap (λ (y : Page V). worth o (y.at y.age)) next_page ∙ older_held
 
-    pub next_new : past o NextPages r (suc (P r).age) ≡ o.join (held o P r) (worth o more)
+    next_new : past o NextPages r (suc (P r).age) ≡ o.join (held o P r) (worth o more)
     next_new = ap (λ (i : ℕ). past o NextPages r i) (sym (add-one (P r).age) ∙ sym next_age) ∙ next_held
 
     pub next_extends : Extends o P NextPages
     next_extends = record {
-      ages = but_all P r (older (P r) more) (λ s y. (P s).age ≤ y.age) (let e = older_age in omega arith) (λ s ne. let h : (P s).age ≤ (P s).age = omega arith in h);
+      ages = but_all P r (older (P r) more) (λ s y. (P s).age ≤ y.age) (let e = older_age in omega arith) (λ s ne. omega arith);
       pasts = but_all P r (older (P r) more) (λ s y. (k : ℕ) → k ≤ (P s).age → worth o (y.at k) ≡ past o P s k) (λ k h. ap (worth o) (older_old k h)) (λ s ne k h. refl);
-      helds = but_all P r (older (P r) more) (λ s y. Under o (held o P s) (worth o (y.at y.age))) (subst (λ v. Under o (held o P r) v) (sym older_held) (join_left o L (held o P r) (worth o more))) (λ s ne. self o L (held o P s));
+      helds = but_all P r (older (P r) more) (λ s y. Under o (held o P s) (worth o (y.at y.age))) (subst (λ v. Under o (held o P r) v) (sym older_held) (L.lattice.above_left (held o P r) (worth o more))) (λ s ne. L.lattice.refl (held o P s));
     }
 
     pub next_sane : Sane o P → Sane o NextPages
-    next_sane s = record {
-      start = but_all P r (older (P r) more) (λ i y. worth o (y.at 0) ≡ o.bottom) (ap (worth o) (older_old 0 (omega arith)) ∙ s.start r) (λ i ne. s.start i);
-      rises = but_all P r (older (P r) more) (λ i y. (k : ℕ) → k ≤ y.age → Under o (worth o (y.at k)) (worth o (y.at y.age))) here (λ i ne. s.rises i);
-    }
-      where
-        below : (k : ℕ) → k ≤ (P r).age → Under o (worth o ((older (P r) more).at k)) (worth o ((older (P r) more).at (older (P r) more).age))
-        below k h = subst (λ v. Under o v (worth o ((older (P r) more).at (older (P r) more).age))) (sym (ap (worth o) (older_old k h))) (subst (λ v. Under o (past o P r k) v) (sym older_held) (to_left o L (past o P r k) (held o P r) (worth o more) (s.rises r k h)))
-
-        here : (k : ℕ) → k ≤ (older (P r) more).age → Under o (worth o ((older (P r) more).at k)) (worth o ((older (P r) more).at (older (P r) more).age))
-        here k h = ⊎_elim (λ e. of_equal o L (worth o ((older (P r) more).at k)) (worth o ((older (P r) more).at (older (P r) more).age)) (ap (λ i. worth o ((older (P r) more).at i)) e)) (λ ne. below k (let e = older_age in omega arith)) (cases_eq k (older (P r) more).age)
+    next_sane = sane_on P NextPages next_extends (but_all P r (older (P r) more) (λ i y. y.age ≤ (P i).age + 1) (let e = older_age in omega arith) (λ i ne. omega arith))
 
   -- Pages of which only marks differ
 
-  module _ (P : ℕ → Page V) (r : ℕ) (y : Page V) (same_age : y.age ≡ (P r).age) (same_at : y.at ≡ (P r).at) where
-    same_held : worth o (y.at y.age) ≡ held o P r
-    same_held = ap (λ i. worth o (y.at i)) same_age ∙ ap (λ f. worth o (f (P r).age)) same_at
+  module _ (P : ℕ → Page V) (r : ℕ) (marks : ℕ → ℕ) where
+    abbrev StillPages : ℕ → Page V
+    StillPages = but P r (record { age = (P r).age; at = (P r).at; marks = marks })
 
-    same_past : (k : ℕ) → worth o (y.at k) ≡ past o P r k
-    same_past k = ap (λ f. worth o (f k)) same_at
-
-    pub still_extends : Extends o P (but P r y)
+    pub still_extends : Extends o P StillPages
     still_extends = record {
-      ages = but_all P r y (λ s z. (P s).age ≤ z.age) (omega arith) (λ s ne. let h : (P s).age ≤ (P s).age = omega arith in h);
-      pasts = but_all P r y (λ s z. (k : ℕ) → k ≤ (P s).age → worth o (z.at k) ≡ past o P s k) (λ k h. same_past k) (λ s ne k h. refl);
-      helds = but_all P r y (λ s z. Under o (held o P s) (worth o (z.at z.age))) (of_equal o L (held o P r) (worth o (y.at y.age)) (sym same_held)) (λ s ne. self o L (held o P s));
+      ages = but_all P r _ (λ s y. (P s).age ≤ y.age) (omega arith) (λ s ne. omega arith);
+      pasts = but_all P r _ (λ s y. (k : ℕ) → k ≤ (P s).age → worth o (y.at k) ≡ past o P s k) (λ k h. refl) (λ s ne k h. refl);
+      helds = but_all P r _ (λ s y. Under o (held o P s) (worth o (y.at y.age))) (L.lattice.refl (held o P r)) (λ s ne. L.lattice.refl (held o P s));
     }
 
-    pub still_sane : Sane o P → Sane o (but P r y)
-    still_sane s = record {
-      start = but_all P r y (λ i z. worth o (z.at 0) ≡ o.bottom) (same_past 0 ∙ s.start r) (λ i ne. s.start i);
-      rises = but_all P r y (λ i z. (k : ℕ) → k ≤ z.age → Under o (worth o (z.at k)) (worth o (z.at z.age))) (λ k h. subst (λ v. Under o v (worth o (y.at y.age))) (sym (same_past k)) (subst (λ v. Under o (past o P r k) v) (sym same_held) (s.rises r k (omega arith)))) (λ i ne. s.rises i);
-    }
+    pub still_sane : Sane o P → Sane o StillPages
+    still_sane = sane_on P StillPages still_extends (but_all P r _ (λ s y. y.age ≤ (P s).age + 1) (omega arith) (λ s ne. omega arith))
 
   -- Recording
 
@@ -127,7 +125,7 @@ module _ {V : Type 0} (o : Ops V) (L : Order o) where
     links = subst (Links o Q r oldest') (sym ring_is) (links_push o L Q r oldest' rest kept (links_on o L P Q ext r oldest' rest (links_drop o L P r p.oldest (length p.ring + 1 - limit) p.ring g.links)) (subst (λ i. Link o Q r i kept) (sym (numbers ∙ g.clock_is)) link));
     marks_long = g.marks_long;
     marks_are = λ j k. g.marks_are j k ∙ sym (next_marks P r more j);
-    marks_good = λ j k. marks_on o L P Q ext r j (mark p j) (g.marks_good j k);
+    marks_good = λ j k. marked_on o L P Q ext r j (mark p j) (g.marks_good j k);
   }
     where
       Q : ℕ → Page V
@@ -158,7 +156,7 @@ module _ {V : Type 0} (o : Ops V) (L : Order o) where
       length_push_is = let a = length_push rest kept in let b = numbers in omega arith
 
       held_x : o.join (held o P r) x ≡ o.join (held o P r) (worth o more)
-      held_x = both_ways o L (o.join (held o P r) x) (o.join (held o P r) (worth o more)) (join_monotone o L (held o P r) x (held o P r) (worth o more) (self o L (held o P r)) low) (join_least o L (held o P r) (worth o more) (o.join (held o P r) x) (join_left o L (held o P r) x) high)
+      held_x = L.lattice.antisym (o.join (held o P r) x) (o.join (held o P r) (worth o more)) (join_mono o L.lattice (held o P r) x (held o P r) (worth o more) (L.lattice.refl (held o P r)) low) (L.lattice.least (held o P r) (worth o more) (o.join (held o P r) x) (L.lattice.above_left (held o P r) x) high)
 
       held_D : o.join (held o P r) D ≡ o.join (held o P r) (worth o more)
       held_D = subst (λ v. o.join v D ≡ o.join v x) g.value_is (difference_joins o L x p.value) ∙ held_x
@@ -171,7 +169,7 @@ module _ {V : Type 0} (o : Ops V) (L : Order o) where
 
       known_now : Under o D (held o Q origin)
       known_now =
-          ⊎_elim (λ e. subst (λ i. Under o D (held o Q i)) (sym e) (subst (λ v. Under o D v) (sym (next_held P r more)) (subst (λ v. Under o D v) held_D (join_right o L (held o P r) D)))) (λ u. chain o L D x (held o Q origin) D_under (chain o L x (held o P origin) (held o Q origin) u (ext.helds origin))) whence
+          ⊎_elim (λ e. subst (λ i. Under o D (held o Q i)) (sym e) (subst (λ v. Under o D v) (sym (next_held P r more)) (subst (λ v. Under o D v) held_D (L.lattice.above_right (held o P r) D)))) (λ u. L.lattice.trans D x (held o Q origin) D_under (L.lattice.trans x (held o P origin) (held o Q origin) u (ext.helds origin))) whence
 
       link : Link o Q r (P r).age kept
       link = record {
@@ -197,8 +195,7 @@ module _ {V : Type 0} (o : Ops V) (L : Order o) where
       long = length-set g.replicas r p
 
       each : (s : ℕ) → s < size g → Good o Q s (get_or (set g.replicas r p) s (blank o))
-      each s k =
-          ⊎_elim (λ e. subst (λ j. Good o Q j (get_or (set g.replicas r p) j (blank o))) (sym e) (subst (λ y. Good o Q r y) (sym (get_or-set_same g.replicas r p (blank o) h)) new)) (λ ne. subst (λ y. Good o Q s y) (sym (get_or-set_other g.replicas r s p (blank o) ne)) (good_on o L P Q ext s (replica o g s) (others s ne) (i.good s k))) (cases_eq s r)
+      each = set_all g.replicas r p (blank o) (λ s y. s < size g → Good o Q s y) h (λ k. new) (λ s ne k. good_on o L P Q ext s (replica o g s) (others s ne) (i.good s k))
 
   -- the same group over another channel
   pub rerouted : (from to : List Waiting) (P : ℕ → Page V) (g : Group V) → Inv o from P g → ((x : Waiting) → Memᴰ x to → Memᴰ x from ⊎ Sound o P (size g) x.to x.bytes) → Inv o to P g

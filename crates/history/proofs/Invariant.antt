@@ -1,9 +1,12 @@
 -- What every reached state keeps, by the pages of the book; and that it stays so as the book grows. Assumes nothing.
-use Rattle.std.proofs.Common.{◌≡◌, ℕ, zero, suc, ◌+◌, ◌<◌, ◌≤◌, Bool, true, false, cond, eqb, ◌≢◌, List, [], ◌∷◌, ◌++◌, length, get_or, drop, sym, refl, ap, ◌∙◌, subst, add-zero, arith, eq-eqb, ne_eqb, eqb-true}
+use Rattle.std.proofs.Common.{◌≡◌, ℕ, zero, suc, ◌+◌, ◌<◌, ◌≤◌, Bool, true, false, cond, eqb, ◌≢◌, List, [], ◌∷◌, ◌++◌, length, get_or, drop, set, sym, refl, ap, ◌∙◌, subst, ⊎_elim, add-zero, arith, eq-eqb, ne_eqb, eqb-true}
 use mathlib.Core.List.{Memᴰ}
 use borrow.Author.Tests.{eqb-false}
-use Rattle.std.proofs.lemmas.Bool.{cond-true, cond-false, cond_both}
+use Rattle.std.proofs.lemmas.Bool.{cond-true, cond-false, cond_both, cases_eq}
+use Rattle.std.proofs.lemmas.List.{get_or-set_same, get_or-set_other}
+use Rattle.lattice.specs.Laws.{Laws}
 use Rattle.lattice.specs.Ops.{Ops}
+use Rattle.lattice.proofs.Order.{join_mono}
 use Rattle.wire.specs.Datagrams.{header_of, written}
 use Rattle.wire.specs.declared.datagram.Datagram.{Datagram}
 use Rattle.wire.specs.declared.datagram.Datagram.TheVariants.{Delta as delta, Ack as ack}
@@ -11,7 +14,7 @@ use Rattle.channel.specs.Meaning.{Waiting}
 use Rattle.history.specs.declared.kept.Kept.{Kept}
 use Rattle.history.specs.Group.{Group, Replica, size, replica, mark, not_from, join_all}
 use Rattle.history.specs.Book.{Page, worth, but}
-use Rattle.history.proofs.Joins.{Under, Order, self, chain, join_left, join_right, join_least, bottom_least, join_monotone}
+use Rattle.history.proofs.Joins.{Under}
 
 pub but_same : {X : Type 0} (f : ℕ → X) (i : ℕ) (x : X) → but f i x i ≡ x
 but_same f i x = cond-true (eqb i i) x (f i) (eq-eqb i i refl)
@@ -22,6 +25,11 @@ but_other f i x j ne = cond-false (eqb j i) x (f j) (ne_eqb j i ne)
 -- what holds of the new one at its place, and of each other, holds of all
 pub but_all : {X : Type 0} (f : ℕ → X) (i : ℕ) (x : X) (P : ℕ → X → Type 0) → P i x → ((j : ℕ) → j ≢ i → P j (f j)) → (j : ℕ) → P j (but f i x j)
 but_all f i x P here there j = cond_both (eqb j i) x (f j) (P j) (λ e. subst (λ k. P k x) (sym (eqb-true j i e)) here) (λ e. there j (eqb-false j i e))
+
+-- and so of a list in which one is set
+pub set_all : {X : Type 0} (xs : List X) (i : ℕ) (x d : X) (P : ℕ → X → Type 0) → i < length xs → P i x → ((j : ℕ) → j ≢ i → P j (get_or xs j d)) → (j : ℕ) → P j (get_or (set xs i x) j d)
+set_all xs i x d P h here there j =
+    ⊎_elim (λ e. subst (λ k. P k (get_or (set xs i x) k d)) (sym e) (subst (P i) (sym (get_or-set_same xs i x d h)) here)) (λ ne. subst (P j) (sym (get_or-set_other xs i j x d ne)) (there j ne)) (cases_eq j i)
 
 module _ {V : Type 0} (o : Ops V) where
   -- the value of a replica at a number, and now, by the book
@@ -90,16 +98,16 @@ module _ {V : Type 0} (o : Ops V) where
     pub good : (r : ℕ) → r < size g → Good P r (replica o g r)
     pub sound : (x : Waiting) → Memᴰ x ws → Sound P (size g) x.to x.bytes
 
-module _ {V : Type 0} (o : Ops V) (L : Order o) where
+module _ {V : Type 0} (o : Ops V) (L : Laws o) where
   -- Growth
 
-  marked_on : (P Q : ℕ → Page V) → Extends o P Q → (r j m : ℕ) → Marked o P r j m → Marked o Q r j m
+  pub marked_on : (P Q : ℕ → Page V) → Extends o P Q → (r j m : ℕ) → Marked o P r j m → Marked o Q r j m
   marked_on P Q x r j m k = record {
     reached = let a = x.ages r in let b = k.reached in omega arith;
-    there = subst (λ y. Under o y (held o Q j)) (sym (x.pasts r m k.reached)) (chain o L (past o P r m) (held o P j) (held o Q j) k.there (x.helds j));
+    there = subst (λ y. Under o y (held o Q j)) (sym (x.pasts r m k.reached)) (L.lattice.trans (past o P r m) (held o P j) (held o Q j) k.there (x.helds j));
   }
 
-  pub link_on : (P Q : ℕ → Page V) → Extends o P Q → (r k : ℕ) (d : Kept V) → Link o P r k d → Link o Q r k d
+  link_on : (P Q : ℕ → Page V) → Extends o P Q → (r k : ℕ) (d : Kept V) → Link o P r k d → Link o Q r k d
   link_on P Q x r k d l =
       let a = x.ages r in
       let b = l.below in
@@ -109,7 +117,7 @@ module _ {V : Type 0} (o : Ops V) (L : Order o) where
         below = omega arith;
         leads = ap (λ y. o.join y d.delta) here ∙ l.leads ∙ sym next;
         least = λ v e. l.least v (ap (λ y. o.join y v) (sym here) ∙ e ∙ next);
-        known = chain o L d.delta (held o P d.origin) (held o Q d.origin) l.known (x.helds d.origin);
+        known = L.lattice.trans d.delta (held o P d.origin) (held o Q d.origin) l.known (x.helds d.origin);
       }
 
   pub links_on : (P Q : ℕ → Page V) → Extends o P Q → (r k : ℕ) (ds : List (Kept V)) → Links o P r k ds → Links o Q r k ds
@@ -129,10 +137,7 @@ module _ {V : Type 0} (o : Ops V) (L : Order o) where
     marks_good = λ j h. marked_on P Q x r j (mark p j) (g.marks_good j h);
   }
 
-  pub marks_on : (P Q : ℕ → Page V) → Extends o P Q → (r j m : ℕ) → Marked o P r j m → Marked o Q r j m
-  marks_on P Q x r j m k = marked_on P Q x r j m k
-
-  pub says_on : (P Q : ℕ → Page V) → Extends o P Q → (d : Datagram V) → Says o P d → Says o Q d
+  says_on : (P Q : ℕ → Page V) → Extends o P Q → (d : Datagram V) → Says o P d → Says o Q d
   says_on P Q x (delta h v) s =
       let from = h.from in
       let to = h.to in
@@ -140,7 +145,7 @@ module _ {V : Type 0} (o : Ops V) (L : Order o) where
       let a = x.ages from in
       let b = s.0 in
       let here = x.pasts from k b in
-      (omega arith, subst (λ y. Under o v y) (sym here) s.1, subst (λ y. Under o y (o.join (held o Q to) v)) (sym here) (chain o L (past o P from k) (o.join (held o P to) v) (o.join (held o Q to) v) s.2 (join_monotone o L (held o P to) v (held o Q to) v (x.helds to) (self o L v))))
+      (omega arith, subst (λ y. Under o v y) (sym here) s.1, subst (λ y. Under o y (o.join (held o Q to) v)) (sym here) (L.lattice.trans (past o P from k) (o.join (held o P to) v) (o.join (held o Q to) v) s.2 (join_mono o L.lattice (held o P to) v (held o Q to) v (x.helds to) (L.lattice.refl v))))
   says_on P Q x (ack h) s =
       let from = h.from in
       let to = h.to in
@@ -148,7 +153,7 @@ module _ {V : Type 0} (o : Ops V) (L : Order o) where
       let a = x.ages to in
       let b = s.0 in
       let here = x.pasts to k b in
-      (omega arith, subst (λ y. Under o y (held o Q from)) (sym here) (chain o L (past o P to k) (held o P from) (held o Q from) s.1 (x.helds from)))
+      (omega arith, subst (λ y. Under o y (held o Q from)) (sym here) (L.lattice.trans (past o P to k) (held o P from) (held o Q from) s.1 (x.helds from)))
 
   pub sound_on : (P Q : ℕ → Page V) → Extends o P Q → (n r : ℕ) (b : List ℕ) → Sound o P n r b → Sound o Q n r b
   sound_on P Q x n r b s = record {
@@ -173,31 +178,31 @@ module _ {V : Type 0} (o : Ops V) (L : Order o) where
   links_push P r k (x ∷ ds) d l n = (l.0, links_push P r (suc k) ds d l.1 (subst (λ i. Link o P r i d) (omega arith) n))
 
   pub links_at : (P : ℕ → Page V) (r k i : ℕ) (ds : List (Kept V)) (d : Kept V) → Links o P r k ds → i < length ds → Link o P r (k + i) (get_or ds i d)
-  links_at P r k i [] d l h = let z : ⊥ = omega arith in absurd z
+  links_at P r k i [] d l h = absurd (omega arith)
   links_at P r k zero (x ∷ ds) d l h = subst (λ m. Link o P r m x) (sym (add-zero k)) l.0
   links_at P r k (suc i) (x ∷ ds) d l h = subst (λ m. Link o P r m (get_or ds i d)) (omega arith) (links_at P r (suc k) i ds d l.1 (omega arith))
 
   -- Shipping: what was not from `j` lies under the value, and with what `j` has it makes up the value
 
   pub shipped_under : (P : ℕ → Page V) → Sane o P → (r j k : ℕ) (ds : List (Kept V)) → Links o P r k ds → Under o (join_all o (not_from j ds)) (held o P r)
-  shipped_under P s r j k [] l = bottom_least o L (held o P r)
+  shipped_under P s r j k [] l = L.lattice.bottom_under (held o P r)
   shipped_under P s r j k (d ∷ ds) l =
       let rest = shipped_under P s r j (suc k) ds l.1 in
-      let this : Under o d.delta (held o P r) = chain o L d.delta (past o P r (suc k)) (held o P r) (subst (λ y. Under o d.delta y) l.0.leads (join_right o L (past o P r k) d.delta)) (s.rises r (suc k) l.0.below) in
-      cond_both (eqb d.origin j) (not_from j ds) (d.delta ∷ not_from j ds) (λ y. Under o (join_all o y) (held o P r)) (λ e. rest) (λ e. join_least o L d.delta (join_all o (not_from j ds)) (held o P r) this rest)
+      let this : Under o d.delta (held o P r) = L.lattice.trans d.delta (past o P r (suc k)) (held o P r) (subst (λ y. Under o d.delta y) l.0.leads (L.lattice.above_right (past o P r k) d.delta)) (s.rises r (suc k) l.0.below) in
+      cond_both (eqb d.origin j) (not_from j ds) (d.delta ∷ not_from j ds) (λ y. Under o (join_all o y) (held o P r)) (λ e. rest) (λ e. L.lattice.least d.delta (join_all o (not_from j ds)) (held o P r) this rest)
 
   pub shipped_covers : (P : ℕ → Page V) (r j k : ℕ) (ds : List (Kept V)) (c : V) → Links o P r k ds → k + length ds ≡ (P r).age → Under o (past o P r k) c → Under o (held o P j) c → Under o (join_all o (not_from j ds)) c → Under o (held o P r) c
   shipped_covers P r j k [] c l e a b d = subst (λ i. Under o (past o P r i) c) (sym (add-zero k) ∙ e) a
   shipped_covers P r j k (x ∷ ds) c l e a b d =
       let split : Under o x.delta c × Under o (join_all o (not_from j ds)) c = parts_of in
-      shipped_covers P r j (suc k) ds c l.1 (omega arith) (subst (λ y. Under o y c) l.0.leads (join_least o L (past o P r k) x.delta c a split.0)) b split.1
+      shipped_covers P r j (suc k) ds c l.1 (omega arith) (subst (λ y. Under o y c) l.0.leads (L.lattice.least (past o P r k) x.delta c a split.0)) b split.1
     where
       from_j : x.origin ≡ j → Under o x.delta c
-      from_j i-is = chain o L x.delta (held o P j) c (subst (λ i. Under o x.delta (held o P i)) i-is l.0.known) b
+      from_j i-is = L.lattice.trans x.delta (held o P j) c (subst (λ i. Under o x.delta (held o P i)) i-is l.0.known) b
 
       go : (t : Bool) → eqb x.origin j ≡ t → Under o (join_all o (cond t (not_from j ds) (x.delta ∷ not_from j ds))) c → Under o x.delta c × Under o (join_all o (not_from j ds)) c
       go true q u = (from_j (eqb-true x.origin j q), u)
-      go false q u = (chain o L x.delta (o.join x.delta (join_all o (not_from j ds))) c (join_left o L x.delta (join_all o (not_from j ds))) u, chain o L (join_all o (not_from j ds)) (o.join x.delta (join_all o (not_from j ds))) c (join_right o L x.delta (join_all o (not_from j ds))) u)
+      go false q u = (L.lattice.trans x.delta (o.join x.delta (join_all o (not_from j ds))) c (L.lattice.above_left x.delta (join_all o (not_from j ds))) u, L.lattice.trans (join_all o (not_from j ds)) (o.join x.delta (join_all o (not_from j ds))) c (L.lattice.above_right x.delta (join_all o (not_from j ds))) u)
 
       parts_of : Under o x.delta c × Under o (join_all o (not_from j ds)) c
       parts_of = go (eqb x.origin j) refl d

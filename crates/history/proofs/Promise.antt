@@ -14,18 +14,18 @@ use Rattle.history.specs.Group as calls
 use Rattle.history.specs.Book.{Book, Event, act, ship, deliver, restart, History, account, value_at, worth, empty_book, book}
 use Rattle.history.specs.Lines.{Line, Lawful}
 use Rattle.history.specs.History.{State, Step, Reached, making, call, between, NewestCall, Holds, Knows, Keeps, Stands, HistoryStands, CarriesOn}
-use Rattle.history.proofs.Joins.{Under, Order, order_of, self, both_ways, worth_same, worth_none}
+use Rattle.history.proofs.Joins.{Under, worth_same, worth_none}
 use Rattle.history.proofs.Invariant.{past, held, Sane, Marked, Link, Good, Inv, links_at}
 use Rattle.history.proofs.Growth.{rerouted}
 use Rattle.history.proofs.Steps.{After, ship_after, well_shipped, ship_keeps, act_keeps, restart_keeps}
 use Rattle.history.proofs.Deliver.{deliver_keeps}
 
-module _ {V : Type 0} (o : Ops V) (L : Order o) where
+module _ {V : Type 0} (o : Ops V) (L : Laws o) where
   -- The making
 
   made_sane : Sane o (empty_book {V = V}).pages
   unfolding empty_book
-  made_sane = record { start = λ r. worth_none o L; rises = λ r k h. self o L (worth o []) }
+  made_sane = record { start = λ r. worth_none o L; rises = λ r k h. L.lattice.refl (worth o []) }
 
   made_good : (r : ℕ) → Good o (empty_book {V = V}).pages r (blank o)
   unfolding empty_book blank
@@ -37,7 +37,7 @@ module _ {V : Type 0} (o : Ops V) (L : Order o) where
     links = tt;
     marks_long = refl;
     marks_are = λ j h. get_or-replicate 8 j 0 0 h;
-    marks_good = λ j h. subst (Marked o (empty_book {V = V}).pages r j) (sym (get_or-replicate 8 j 0 0 h)) (record { reached = omega arith; there = self o L (worth o []) });
+    marks_good = λ j h. subst (Marked o (empty_book {V = V}).pages r j) (sym (get_or-replicate 8 j 0 0 h)) (record { reached = omega arith; there = L.lattice.refl (worth o []) });
   }
 
   made_inv : (n q : ℕ) → n ≤ 8 → 1 ≤ q → Inv o [] (empty_book {V = V}).pages (made o n q)
@@ -98,7 +98,7 @@ module _ {V : Type 0} (o : Ops V) (L : Order o) where
     clocks = λ r h. (i.good r h).clock_is;
     marks = λ r j h k ne. (i.good r h).marks_are j (let few = i.few in omega arith);
     level_with = λ r j h k ne e. inv_level ws b g i r j h k e;
-    both_level = λ r j h k ne e f. both_ways o L (replica o g r).value (replica o g j).value (inv_level ws b g i r j h k e) (inv_level ws b g i j r k h f);
+    both_level = λ r j h k ne e f. L.lattice.antisym (replica o g r).value (replica o g j).value (inv_level ws b g i r j h k e) (inv_level ws b g i j r k h f);
   }
 
   inv_link : (ws : List Waiting) (b : Book V) (g : Group V) → Inv o ws b.pages g → (r k : ℕ) (d : Kept V) → r < size g → k < length (replica o g r).ring → get_or (replica o g r).ring k d ≡ d → Link o b.pages r ((replica o g r).oldest + k) d
@@ -130,7 +130,7 @@ module _ {V C : Type 0} (o : Ops V) (ch : Line C) where
     pub history_stands_lem : HistoryStands o ch
     history_stands_lem h s reached =
         let narrow = reached_usable reached in
-        let L = order_of o (lawful narrow) in
+        let L = lawful narrow in
         let k = reached_keeps o L narrow R ch M reached in
         inv_stands o L (ch.waits s.channel) h s.group k.0 k.1
 

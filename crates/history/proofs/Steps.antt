@@ -4,10 +4,12 @@ use lib.ListN.{get_or-replicate}
 use borrow.Author.Tests.{eqb-false, not-true}
 use Rattle.std.proofs.lemmas.Bool.{cond_both, and_parts}
 use Rattle.std.proofs.lemmas.List.{get_or-set_same}
+use Rattle.lattice.specs.Laws.{Laws}
 use Rattle.lattice.specs.Ops.{Ops, difference}
 use Rattle.lattice.specs.declared.part.Act.{Act}
 use Rattle.lattice.specs.declared.refusal.Layer.TheVariants.{Group as of_group}
 use Rattle.lattice.specs.declared.refusal.Refusal.{Refusal}
+use Rattle.lattice.proofs.Order.{under_left, under_right}
 use Rattle.wire.specs.Datagrams.{written}
 use Rattle.wire.specs.declared.datagram.Datagram.TheVariants.{Delta as delta}
 use Rattle.channel.specs.Meaning.{Waiting}
@@ -20,20 +22,20 @@ use Rattle.history.specs.Group as calls
 use Rattle.history.specs.Book.{Page, Book, Event, act, ship, restart, Mutation, worth, but, older, unmarked, with_page, mutation, with_mutation, or_bottom, entered}
 use Rattle.history.specs.Lines.{Line, Lawful, Puts}
 use Rattle.history.specs.History.{Ships, NewestOf, Newest}
-use Rattle.history.proofs.Joins.{Under, Order, self, join_left, join_right, bottom_least, of_equal, to_left, to_right, worth_one}
+use Rattle.history.proofs.Joins.{Under, of_equal, worth_one}
 use Rattle.history.proofs.Invariant.{but_same, but_other, past, held, Extends, Sane, Marked, Links, Good, Says, Sound, Inv, links_drop, shipped_under, shipped_covers}
 use Rattle.history.proofs.Growth.{NextPages, next_extends, next_sane, still_extends, still_sane, Recorded, recorded, grown_good, replaced, rerouted, taken_in}
 
-module _ {V : Type 0} (o : Ops V) (L : Order o) where
+module _ {V : Type 0} (o : Ops V) (L : Laws o) where
   pub extends_self : (P : ℕ → Page V) → Extends o P P
-  extends_self P = record { ages = λ r. let h : (P r).age ≤ (P r).age = omega arith in h; pasts = λ r k h. refl; helds = λ r. self o L (held o P r) }
+  extends_self P = record { ages = λ r. omega arith; pasts = λ r k h. refl; helds = λ r. L.lattice.refl (held o P r) }
 
   pub size_kept : (g : Group V) (r : ℕ) (p : Replica V) → size (with_replica g r p) ≡ size g
   unfolding with_replica
   size_kept g r p = length-set g.replicas r p
 
   -- the replica put in is the one found
-  pub found : (g : Group V) (r : ℕ) (p : Replica V) → r < size g → replica o (with_replica g r p) r ≡ p
+  found : (g : Group V) (r : ℕ) (p : Replica V) → r < size g → replica o (with_replica g r p) r ≡ p
   unfolding with_replica
   found g r p h = get_or-set_same g.replicas r p (blank o) h
 
@@ -63,7 +65,7 @@ module _ {V : Type 0} (o : Ops V) (L : Order o) where
           (ltb-true r (size g) a.0, ltb-true j (size g) b.0, eqb-false r j (not-true (eqb r j) b.1), refl)
 
   -- what is shipped says what holds
-  pub shipment_says : (P : ℕ → Page V) (r j : ℕ) (p : Replica V) → Sane o P → Good o P r p → j < 8 → Says o P (delta (header r j p.clock) (shipment o p j))
+  shipment_says : (P : ℕ → Page V) (r j : ℕ) (p : Replica V) → Sane o P → Good o P r p → j < 8 → Says o P (delta (header r j p.clock) (shipment o p j))
   unfolding shipment
   shipment_says P r j p s g h =
       subst (λ k. Says o P (delta (header r j k) (shipment o p j))) (sym g.clock_is) (cond_both (leb p.oldest (mark p j)) (join_all o (not_from j (drop (mark p j - p.oldest) p.ring))) p.value (λ v. Says o P (delta (header r j (P r).age) v)) since whole)
@@ -81,10 +83,10 @@ module _ {V : Type 0} (o : Ops V) (L : Order o) where
           let v = join_all o (not_from j rest) in
           let long = length-drop (mark p j - p.oldest) p.ring in
           let at : Links o P r (mark p j) rest = subst (λ k. Links o P r k rest) (omega arith) (links_drop o L P r p.oldest (mark p j - p.oldest) p.ring g.links) in
-          (omega arith, shipped_under o L P s r j (mark p j) rest at, shipped_covers o L P r j (mark p j) rest (o.join (held o P j) v) at (omega arith) (to_left o L (past o P r (mark p j)) (held o P j) v m.there) (join_left o L (held o P j) v) (join_right o L (held o P j) v))
+          (omega arith, shipped_under o L P s r j (mark p j) rest at, shipped_covers o L P r j (mark p j) rest (o.join (held o P j) v) at (omega arith) (under_left o L.lattice (past o P r (mark p j)) (held o P j) v m.there) (L.lattice.above_left (held o P j) v) (L.lattice.above_right (held o P j) v))
 
       whole : leb p.oldest (mark p j) ≡ false → Says o P (delta (header r j (P r).age) p.value)
-      whole e = (omega arith, of_equal o L p.value (held o P r) g.value_is, to_right o L (held o P r) (held o P j) p.value (of_equal o L (held o P r) p.value (sym g.value_is)))
+      whole e = (omega arith, of_equal o L p.value (held o P r) g.value_is, under_right o L.lattice (held o P r) (held o P j) p.value (of_equal o L (held o P r) p.value (sym g.value_is)))
 
   -- Putting what is sound
 
@@ -142,7 +144,7 @@ module _ {V : Type 0} (o : Ops V) (L : Order o) where
           worth_is = worth_one o L m ∙ effect_is
 
           new : Good o Q r q
-          new = grown_good o L b.pages g.limit r p e r (m ∷ []) i.room is_good top (of_equal o L e (worth o (m ∷ [])) (sym worth_is)) (to_right o L (worth o (m ∷ [])) (held o b.pages r) e (of_equal o L (worth o (m ∷ [])) e worth_is)) (inl refl)
+          new = grown_good o L b.pages g.limit r p e r (m ∷ []) i.room is_good top (of_equal o L e (worth o (m ∷ [])) (sym worth_is)) (under_right o L.lattice (worth o (m ∷ [])) (held o b.pages r) e (of_equal o L (worth o (m ∷ [])) e worth_is)) (inl refl)
 
           ring : NewestOf o b r true m.effect r (with_replica g r q)
           ring = subst (λ v. (front : List (Kept V)) × ((replica o (with_replica g r q) r).ring ≡ front ++ record { delta = v; origin = r } ∷ [])) (ap (difference o e) is_good.value_is ∙ ap (λ v. difference o v (held o b.pages r)) (sym effect_is)) (newest_ring g r g.limit p e r i.room h)
@@ -181,12 +183,12 @@ module _ {V : Type 0} (o : Ops V) (L : Order o) where
             links = tt;
             marks_long = refl;
             marks_are = λ j k. get_or-replicate 8 j 0 0 k ∙ sym (ap (λ (y : Page V). y.marks j) page);
-            marks_good = λ j k. subst (Marked o (but b.pages r (unmarked (b.pages r))) r j) (sym (get_or-replicate 8 j 0 0 k)) (record { reached = omega arith; there = subst (λ v. Under o v (held o (but b.pages r (unmarked (b.pages r))) j)) (sym (ap (λ (y : Page V). worth o (y.at 0)) page ∙ i.sane.start r)) (bottom_least o L (held o (but b.pages r (unmarked (b.pages r))) j)) });
+            marks_good = λ j k. subst (Marked o (but b.pages r (unmarked (b.pages r))) r j) (sym (get_or-replicate 8 j 0 0 k)) (record { reached = omega arith; there = subst (λ v. Under o v (held o (but b.pages r (unmarked (b.pages r))) j)) (sym (ap (λ (y : Page V). worth o (y.at 0)) page ∙ i.sane.start r)) (L.lattice.bottom_under (held o (but b.pages r (unmarked (b.pages r))) j)) });
           }
 
       restart_in : (r : ℕ) → r < size g → After b (restart r (Ok (replica o g r).clock)) ws (with_replica g r (restarted (replica o g r)))
       unfolding entered with_page unmarked
-      restart_in r h = (replaced o L ws b.pages (but b.pages r (unmarked (b.pages r))) g r (restarted (replica o g r)) i h (λ s ne. but_other b.pages r (unmarked (b.pages r)) s ne) (still_extends o L b.pages r (unmarked (b.pages r)) refl refl) (still_sane o L b.pages r (unmarked (b.pages r)) refl refl i.sane) (restart_good r h), tt)
+      restart_in r h = (replaced o L ws b.pages (but b.pages r (unmarked (b.pages r))) g r (restarted (replica o g r)) i h (λ s ne. but_other b.pages r (unmarked (b.pages r)) s ne) (still_extends o L b.pages r (unmarked (b.pages r)).marks) (still_sane o L b.pages r (unmarked (b.pages r)).marks i.sane) (restart_good r h), tt)
 
       pub restart_keeps : (r : ℕ) → After b (restart r (calls.restart o g r).0) ws (calls.restart o g r).1
       unfolding entered calls.restart

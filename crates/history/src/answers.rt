@@ -7,7 +7,7 @@ pub enum Outcome {
     Same,
 }
 
-// What a ship did.
+// What a ship did. An `Option` would not say why nothing went.
 #[derive(Clone, Copy, PartialEq, Eq, Debug)]
 pub enum Shipped {
     // The receiver is known to have everything.

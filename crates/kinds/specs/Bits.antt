@@ -1,16 +1,13 @@
 -- Rows of bits, 64 to a word. Assumes nothing.
 use Rattle.std.specs.Prelude.{ℕ, zero, suc, ◌+◌, ◌*◌, ◌/◌, ◌%◌, ◌^◌, ◌<◌, min, List, map, slice_index}
 use Rattle.std.proofs.Common.{pow-suc, arith}
+use Rattle.std.specs.Int.{bit_at}
 use Rattle.std.specs.List.{range_with_len}
 use Rattle.kinds.specs.Levels.{Bounded, counted_bounded}
 
--- the bit of a word at place k: 0 or 1
-abbrev pub bit : ℕ → ℕ → ℕ
-bit w k = w / 2 ^ k % 2
-
 -- bit s of a row of 64-bit words
 abbrev pub row_bit : List ℕ → ℕ → ℕ
-row_bit ws s = bit (slice_index ws (s / 64)) (s % 64)
+row_bit ws s = bit_at (slice_index ws (s / 64)) (s % 64)
 
 -- the word of n bits whose bit k is set where f k is 1 or more
 unfoldable pub word : ℕ → (ℕ → ℕ) → ℕ

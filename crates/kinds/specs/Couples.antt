@@ -1,22 +1,13 @@
 -- The pair of two kinds keeps the laws. Assumes nothing.
-use Rattle.std.specs.Prelude.{◌≡◌, ℕ, ◌+◌, ◌-◌, ◌<◌, ◌≤◌, Bool, true, false, cond, ◌⊎◌, Some, None, ◌≢◌, nat_lt, refl}
+use Rattle.std.specs.Prelude.{◌≡◌, ℕ, ◌+◌, ◌-◌, ◌<◌, ◌≤◌, true, false, cond, ◌⊎◌, ◌≢◌, nat_lt}
 use Rattle.std.proofs.Common.{sym, ap, ap₂, subst, ◌∙◌, inl, inr, ⊎_elim, arith}
-use Rattle.std.proofs.lemmas.Bool.{and_parts, and_from, and_left, and_right, cases_lt, lt-ltb, le-ltb, ltb-true, cond-true, cond-false}
+use Rattle.std.proofs.lemmas.Bool.{and_parts, and_from, and_left, and_right, cases_lt, lt-ltb, le-ltb, cond-true, cond-false}
 use Rattle.kinds.specs.declared.pair.Pair.{Pair}
 use Rattle.lattice.specs.Laws.{Laws, Lattice, Levels}
 use Rattle.lattice.specs.Ops.{Ops}
 use Rattle.kinds.specs.Pairs.{on_left, on_right, pair_ops}
 use Rattle.lattice.proofs.Core.{laws_from}
-use Rattle.lattice.proofs.Order.{join_bottom}
 use Rattle.lattice.proofs.Parts.{part_under, part_not_bottom, whole_under}
-
--- which way a slot that is found on the left went
-pub found_left : (s n k : ℕ) → None ≡ cond (nat_lt s n) None (Some k) → s < n
-found_left s n k e = ltb-true s n (go (nat_lt s n) e)
-  where
-    go : (t : Bool) → None ≡ cond t None (Some k) → t ≡ true
-    go true f = refl
-    go false f = let z : ◌≡◌ {A = ℕ} 0 1 = cc in absurd (omega arith)
 
 module _ {A B : Type 0} (p : Ops A) (q : Ops B) where
   abbrev o : Ops (Pair A B)
@@ -28,30 +19,30 @@ module _ {A B : Type 0} (p : Ops A) (q : Ops B) where
       (λ (h : p.width ≤ s). let e : p.width + (s - p.width) ≡ s = omega arith in subst P e (g (s - p.width)))
       (cases_lt s p.width)
 
-  back : (t : ℕ) → (p.width + t) - p.width ≡ t
-  back t = omega arith
+  -- what goes by the side of a slot
+  on_its_left : {X : Type 0} (s : ℕ) (x y : X) → s < p.width → cond (nat_lt s p.width) x y ≡ x
+  on_its_left s x y h = cond-true (nat_lt s p.width) x y (lt-ltb s p.width h)
+
+  on_its_right : {X : Type 0} (t : ℕ) (x : X) (f : ℕ → X) → cond (nat_lt (p.width + t) p.width) x (f ((p.width + t) - p.width)) ≡ f t
+  on_its_right t x f = cond-false (nat_lt (p.width + t) p.width) _ _ (le-ltb (p.width + t) p.width (omega arith)) ∙ ap f (omega arith)
 
   left_level : (x : Pair A B) (s : ℕ) → s < p.width → o.level x s ≡ p.level x.left s
-  left_level x s h = cond-true (nat_lt s p.width) _ _ (lt-ltb s p.width h)
+  left_level x s = on_its_left s _ _
 
   right_level : (x : Pair A B) (t : ℕ) → o.level x (p.width + t) ≡ q.level x.right t
-  right_level x t = cond-false (nat_lt (p.width + t) p.width) _ _ (le-ltb (p.width + t) p.width (omega arith)) ∙ ap (q.level x.right) (back t)
+  right_level x t = on_its_right t _ (q.level x.right)
 
   left_admits : (s l : ℕ) → s < p.width → o.admits s l ≡ p.admits s l
-  left_admits s l h = cond-true (nat_lt s p.width) _ _ (lt-ltb s p.width h)
-
-  pub answer_left : (s l : ℕ) (r : Bool) → s < p.width → r ≡ p.admits s l → r ≡ o.admits s l
-  answer_left s l r h e = e ∙ sym (left_admits s l h)
+  left_admits s l = on_its_left s _ _
 
   right_admits : (t l : ℕ) → o.admits (p.width + t) l ≡ q.admits t l
-  right_admits t l = cond-false (nat_lt (p.width + t) p.width) _ _ (le-ltb (p.width + t) p.width (omega arith)) ∙ ap (λ n. q.admits n l) (back t)
+  right_admits t l = on_its_right t _ (λ n. q.admits n l)
 
   left_part : (s l : ℕ) → s < p.width → o.part s l ≡ on_left p q (p.part s l)
-  left_part s l h = cond-true (nat_lt s p.width) _ _ (lt-ltb s p.width h)
+  left_part s l = on_its_left s _ _
 
   right_part : (t l : ℕ) → o.part (p.width + t) l ≡ on_right p q (q.part t l)
-  right_part t l =
-      cond-false (nat_lt (p.width + t) p.width) _ _ (le-ltb (p.width + t) p.width (omega arith)) ∙ ap (λ n. on_right p q (q.part n l)) (back t)
+  right_part t l = on_its_right t _ (λ n. on_right p q (q.part n l))
 
   pub pair_lattice : Lattice p → Lattice q → Lattice o
   pair_lattice L M = record {
@@ -74,18 +65,6 @@ module _ {A B : Type 0} (p : Ops A) (q : Ops B) where
         and_from _ _ (L.least x.left y.left z.left c.0 d.0) (M.least x.right y.right z.right c.1 d.1);
     bottom_under = λ x. and_from _ _ (L.bottom_under x.left) (M.bottom_under x.right);
   }
-
-  -- a part joined on the left
-  pub join_left : (M : Lattice q) (x : Pair A B) (s l : ℕ) (z : A) → s < p.width → z ≡ cond (p.admits s l) (p.join x.left (p.part s l)) x.left
-      → ◌≡◌ {A = Pair A B} (record { left = z; right = x.right }) (cond (o.admits s l) (o.join x (o.part s l)) x)
-  join_left M x s l z h e =
-      go (p.admits s l) e ∙ ap (λ (w : Pair A B). cond (p.admits s l) (o.join x w) x) (sym (left_part s l h))
-      ∙ ap (λ (t : Bool). cond t (o.join x (o.part s l)) x) (sym (left_admits s l h))
-    where
-      go : (t : Bool) → z ≡ cond t (p.join x.left (p.part s l)) x.left
-          → ◌≡◌ {A = Pair A B} (record { left = z; right = x.right }) (cond t (o.join x (on_left p q (p.part s l))) x)
-      go true f = λ i. record { left = f i; right = sym (join_bottom q M x.right) i }
-      go false f = λ i. record { left = f i; right = x.right }
 
   module _ (L : Laws p) (M : Laws q) where
     -- a part is under a value just when it is on its own side

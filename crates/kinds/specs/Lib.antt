@@ -4,9 +4,9 @@ pub mod Counters
 pub mod Bits
 pub mod Sets
 pub mod Pairs
+pub mod Ruled
 pub mod Fours
 pub mod TwoPhases
-pub mod Wrappers
 pub mod Couples
 pub mod Members
 pub mod Bounds

@@ -1,12 +1,7 @@
 -- The pair of two kinds: the left kind's slots, then the right kind's. Assumes nothing.
 use Rattle.std.specs.Prelude.{ℕ, ◌+◌, ◌-◌, ◌/◌, ◌%◌, cond, ◌&&◌, Ok, Err, Result, ◌==◌, nat_lt}
 use Rattle.lattice.specs.Ops.{Ops}
-use Rattle.lattice.specs.declared.part.Act.{Act}
 use Rattle.kinds.specs.declared.pair.Pair.{Pair}
-
--- an act at another place
-abbrev pub moved : Act → ℕ → Act
-moved act place = record { place = place; verb = act.verb; amount = act.amount }
 
 -- an effect carried into a larger value
 abbrev pub carried : {A K : Type 0} → (A → K) → Result A ℕ → Result K ℕ
@@ -32,6 +27,6 @@ module _ {A B : Type 0} (p : Ops A) (q : Ops B) where
     -- an even place goes left as its half, an odd one right as the half of the place before it
     effect = λ x actor act.
         cond (act.place % 2 == 0)
-        (carried on_left (p.effect x.left actor (moved act (act.place / 2))))
-        (carried on_right (q.effect x.right actor (moved act ((act.place - 1) / 2))));
+        (carried on_left (p.effect x.left actor (record act { place = act.place / 2 })))
+        (carried on_right (q.effect x.right actor (record act { place = (act.place - 1) / 2 })));
   }

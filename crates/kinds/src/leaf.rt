@@ -1,9 +1,10 @@
 // Refusals that several kinds share.
-ghost use Rattle.std.specs.Prelude.{◌≡◌, Ok};
+ghost use Rattle.std.specs.Prelude.{◌≡◌, ◌==◌, cond, not, Ok, Err};
 ghost use Rattle.lattice.specs.Faults.{numbered};
 ghost use Rattle.kinds.specs.Leaf.{leaf, member};
 
 use lattice::fault::KindFault;
+use lattice::part::Act;
 
 // Refuses an actor of 8 or more, then a place other than 0: for a kind that has no places of its own.
 pub(crate) fn check_leaf(actor: u8, place: u16) -> Result<(), KindFault>
@@ -18,12 +19,20 @@ pub(crate) fn check_leaf(actor: u8, place: u16) -> Result<(), KindFault>
     Ok(())
 }
 
+// Refuses the same, then a verb other than 1: for a kind whose one verb adds.
+pub(crate) fn check_adds(actor: u8, act: Act) -> Result<(), KindFault>
+    ensures { numbered result ≡ leaf actor act.place (cond (not (act.verb == 1)) (Err 6) (Ok tt)) }
+{
+    check_leaf(actor, act.place)?;
+    if act.verb != 1 {
+        return Err(KindFault::Verb);
+    }
+    Ok(())
+}
+
 // The member that an amount names.
 pub(crate) fn named_member(amount: u32) -> Result<u8, KindFault>
     ensures { numbered result ≡ member amount (Ok amount) }
 {
-    if amount > 255 {
-        return Err(KindFault::Amount);
-    }
-    Ok(amount as u8)
+    u8::try_from(amount).map_err(|_| KindFault::Amount)
 }

@@ -5,5 +5,6 @@ pub mod counter;
 pub mod four;
 mod leaf;
 pub mod pair;
+pub mod ruled;
 pub mod set;
 pub mod two_phase;

@@ -1,6 +1,6 @@
 // Two values of any two kinds, side by side: the left kind's slots, then the right kind's.
-ghost use Rattle.std.specs.Prelude.{◌≡◌, ◌-◌, if◌then◌else◌, Some, None, nat_lt};
-ghost use Rattle.kinds.specs.Pairs.{pair_ops};
+ghost use Rattle.std.specs.Prelude.{◌≡◌, ◌+◌, ◌<◌, MatchOption};
+ghost use Rattle.kinds.specs.Pairs.{on_left, on_right, pair_ops};
 ghost use Rattle.kinds.specs.Couples.{pair_lattice, pair_laws};
 ghost use Rattle.std.proofs.Common.{arith};
 
@@ -8,21 +8,36 @@ use lattice::fault::KindFault;
 use lattice::kind::Kind;
 use lattice::part::{Act, Part};
 
-#[derive(Clone, Copy)]
+#[derive(Clone, Copy, PartialEq, Eq, Debug)]
 pub struct Pair<A, B> {
     pub left: A,
     pub right: B,
 }
 
 // The slot as the right side numbers it, or none where it is the left side's.
+// The methods match on it one by one, since the sides are of two kinds and have no call in common.
 fn right_slot<A: Kind>(slot: u16) -> Option<u16>
-    ensures { result ≡ (if nat_lt slot A.ops.width then None else Some (slot - A.ops.width)) }
+    ensures { MatchOption result (slot < A.ops.width) (λ s. slot ≡ A.ops.width + s) }
 {
-    let width = A::width();
-    if u32::from(slot) < width {
-        None
-    } else {
-        Some(slot - width as u16)
+    let width = u16::try_from(A::width()).ok()?;
+    slot.checked_sub(width)
+}
+
+impl<A: Kind, B: Kind> Pair<A, B> {
+    // The left side given, with bottom on the right.
+    pub(crate) fn on_left(left: A) -> Self
+        ensures { result ≡ on_left A.ops B.ops left }
+    {
+        let right = B::bottom();
+        Pair { left, right }
+    }
+
+    // The right side given, with bottom on the left.
+    pub(crate) fn on_right(right: B) -> Self
+        ensures { result ≡ on_right A.ops B.ops right }
+    {
+        let left = A::bottom();
+        Pair { left, right }
     }
 }
 
@@ -82,19 +97,14 @@ impl<A: Kind, B: Kind> Kind for Pair<A, B> {
     }
 
     fn effect(&self, actor: u8, act: Act) -> Result<Self, KindFault> {
-        let place = act.place / 2;
+        let inner = Act {
+            place: act.place / 2,
+            ..act
+        };
         if act.place % 2 == 0 {
-            let left = self.left.effect(actor, Act { place, ..act })?;
-            Ok(Pair {
-                left,
-                ..Self::bottom()
-            })
+            Ok(Self::on_left(self.left.effect(actor, inner)?))
         } else {
-            let right = self.right.effect(actor, Act { place, ..act })?;
-            Ok(Pair {
-                right,
-                ..Self::bottom()
-            })
+            Ok(Self::on_right(self.right.effect(actor, inner)?))
         }
     }
 }

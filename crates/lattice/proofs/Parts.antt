@@ -1,11 +1,13 @@
 -- The list of a value's parts, and joins of listed parts. Assumes nothing.
-use Rattle.std.proofs.Common.{◌≡◌, ℕ, zero, suc, ◌+◌, ◌-◌, ◌<◌, ◌≤◌, true, false, List, [], ◌∷◌, ◌++◌, length, sym, refl, ap, ◌∙◌, subst, ⊎_elim, add-zero, add-suc, add-one, arith, length-append}
+use Rattle.std.specs.Prelude.{Err, Ok, min, nat_lt}
+use Rattle.std.proofs.Common.{◌≡◌, ℕ, zero, suc, ◌+◌, ◌-◌, ◌<◌, ◌≤◌, true, false, List, [], ◌∷◌, ◌++◌, length, sym, refl, ap, ap₂, ◌∙◌, subst, ⊎_elim, add-zero, add-one, arith, length-append}
 use Rattle.std.specs.List.{AllByRecursion as All}
 use Rattle.std.proofs.ByRecursion.{All-append}
-use Rattle.std.proofs.lemmas.List.{append-nil, length_push}
-use Rattle.std.proofs.lemmas.Bool.{cases_order, cases_Bool}
-use Rattle.lattice.specs.Laws.{Laws, Lattice}
-use Rattle.lattice.specs.Ops.{Ops, alone, parts_at, parts_below, parts, joined}
+use Rattle.std.proofs.lemmas.List.{append-nil, append_assoc}
+use Rattle.std.proofs.lemmas.Bool.{cases_order, cases_Bool, cond-false, le-ltb}
+use Rattle.lattice.specs.Laws.{Laws, Lattice, Usable}
+use Rattle.lattice.specs.Ops.{Ops, alone, parts_at, parts_below, parts, joined, walked}
+use Rattle.lattice.specs.Walks.{parts_from}
 use Rattle.lattice.specs.declared.part.Part.{Part}
 use Rattle.lattice.proofs.Order.{join_comm, join_assoc}
 
@@ -19,6 +21,16 @@ all_left P (x ∷ xs) ys h = (h.0, all_left P xs ys h.1)
 all_right : {X : Type 0} (P : X → Type 0) (xs ys : List X) → All P (xs ++ ys) → All P ys
 all_right P [] ys h = h
 all_right P (x ∷ xs) ys h = all_right P xs ys h.1
+
+-- a walk of which some items came: another comes, or it is over
+pub walk_on : {X : Type 0} (seen : List X) (x : X) (left next whole : List X) → seen ++ left ≡ whole → left ≡ x ∷ next → seen ++ x ∷ [] ++ next ≡ whole
+walk_on seen x left next whole e h = append_assoc seen (x ∷ []) next ∙ ap (λ ys. seen ++ ys) (sym h) ∙ e
+
+pub walk_over : {X : Type 0} (seen left whole : List X) → seen ++ left ≡ whole → left ≡ [] → seen ≡ whole
+walk_over seen left whole e h = sym (append-nil seen) ∙ ap (λ ys. seen ++ ys) (sym h) ∙ e
+
+pub walk_length : {X : Type 0} (seen : List X) (x : X) (left next whole : List X) → seen ++ left ≡ whole → left ≡ x ∷ next → length seen + 1 ≤ length whole
+walk_length seen x left next whole e h = omega (arith, ap length e, length-append seen left, ap length h)
 
 module _ {K : Type 0} (o : Ops K) where
   pub at_none : (s l : ℕ) → l ≤ 0 → parts_at o s l ≡ []
@@ -44,12 +56,6 @@ module _ {K : Type 0} (o : Ops K) where
   below_one x n l e p =
       parts_more x n ∙ ap (λ (ps : List Part). parts_below o x n ++ ps) (at_one n (o.level x n) (omega arith) ∙ ap (λ (k : ℕ). part_of n k ∷ []) (sym e))
 
-  pub count_none : (x : K) (n l : ℕ) → l ≡ o.level x n → l ≤ 0 → length (parts_below o x (n + 1)) ≡ length (parts_below o x n)
-  count_none x n l e z = ap length (below_none x n l e z)
-
-  pub count_one : (x : K) (n l : ℕ) → l ≡ o.level x n → 0 < l → length (parts_below o x (n + 1)) ≡ length (parts_below o x n) + 1
-  count_one x n l e p = ap length (below_one x n l e p) ∙ length_push (parts_below o x n) (part_of n l)
-
   -- there are no more parts than slots, and no fewer below a higher slot
   pub below_length : (x : K) (n : ℕ) → length (parts_below o x n) ≤ n
   unfolding parts_below parts_at
@@ -60,15 +66,54 @@ module _ {K : Type 0} (o : Ops K) where
       go zero h = simp append-nil (omega arith)
       go (suc l) h = simp length-append (omega arith)
 
-  below_grows : (x : K) (n k : ℕ) → length (parts_below o x n) ≤ length (parts_below o x (n + k))
-  unfolding parts_below
-  below_grows x n zero = simp add-zero (omega arith)
-  below_grows x n (suc k) = rw add-suc (simp length-append (omega (arith, below_grows x n k)))
+  -- a walk that begins at a slot comes to the parts that do not stand below it
+  below_from : (x : K) (s n : ℕ) → parts_below o x s ++ parts_from o x s n ≡ parts_below o x (s + n)
+  unfolding parts_from
+  below_from x s zero = rw add-zero (append-nil (parts_below o x s))
+  below_from x s (suc n) =
+      sym (append_assoc (parts_below o x s) (parts_at o s (o.level x s)) (parts_from o x (suc s) n))
+      ∙ ap (λ (ps : List Part). ps ++ parts_from o x (suc s) n) (rw add-one at (sym (parts_more x s)))
+      ∙ below_from x (suc s) n
+      ∙ ap (parts_below o x) (omega arith)
 
-  pub below_room : (x : K) (n : ℕ) → n ≤ o.width → length (parts_below o x n) ≤ length (parts o x)
-  below_room x n h =
-      let e : n + (o.width - n) ≡ o.width = omega arith in
-      subst (λ (m : ℕ). length (parts_below o x n) ≤ length (parts_below o x m)) e (below_grows x n (o.width - n))
+  pub from_all : (x : K) (n : ℕ) → parts_from o x 0 n ≡ parts_below o x n
+  unfolding parts_below
+  from_all x n = let start : 0 + n ≡ n = omega arith in below_from x 0 n ∙ ap (parts_below o x) start
+
+  pub from_width : (x : K) (n : ℕ) → Usable o → n ≡ min o.width 4294967295 → parts_from o x 0 n ≡ parts o x
+  from_width x n u e = let width : n ≡ o.width = omega arith in ap (parts_from o x 0) width ∙ from_all x o.width
+
+  -- a walk ends at the last slot, and goes on to the next, with a part or without
+  pub from_done : (x : K) (s e : ℕ) → e ≤ s → parts_from o x s (e - s) ≡ []
+  unfolding parts_from
+  from_done x s e h = let none : e - s ≡ 0 = omega arith in ap (parts_from o x s) none
+
+  from_step : (x : K) (s e : ℕ) → s < e → parts_from o x s (e - s) ≡ parts_at o s (o.level x s) ++ parts_from o x (s + 1) (e - (s + 1))
+  unfolding parts_from
+  from_step x s e h =
+      let n : e - s ≡ suc (e - (s + 1)) = omega arith in
+      ap (parts_from o x s) n ∙ ap (λ (t : ℕ). parts_at o s (o.level x s) ++ parts_from o x t (e - (s + 1))) (sym (add-one s))
+
+  module _ (x : K) (s e n l t f : ℕ) (open_ : 0 < e - s) (here : n ≡ s) (read : l ≡ o.level x n) (next : t ≡ s + 1) (end : f ≡ e) where
+    rest : parts_from o x (s + 1) (e - (s + 1)) ≡ parts_from o x t (f - t)
+    rest = ap₂ (parts_from o x) (sym next) (omega (arith, next, end))
+
+    pub from_none : l ≤ 0 → parts_from o x s (e - s) ≡ parts_from o x t (f - t)
+    from_none z =
+        from_step x s e (omega arith)
+        ∙ ap (λ (ps : List Part). ps ++ parts_from o x (s + 1) (e - (s + 1))) (at_none s (o.level x s) (omega (arith, read, ap (o.level x) here)))
+        ∙ rest
+
+    pub from_one : 0 < l → parts_from o x s (e - s) ≡ part_of n l ∷ parts_from o x t (f - t)
+    from_one p =
+        from_step x s e (omega arith)
+        ∙ ap (λ (ps : List Part). ps ++ parts_from o x (s + 1) (e - (s + 1)))
+        (at_one s (o.level x s) (omega (arith, read, ap (o.level x) here)) ∙ ap₂ (λ (m k : ℕ). part_of m k ∷ []) (sym here) (sym (read ∙ ap (o.level x) here)))
+        ∙ ap (λ (ps : List Part). part_of n l ∷ ps) rest
+
+  -- what a usable kind answers, where the slots are walked
+  pub walked_is : {A : Type 0} (x y : A) → Usable o → x ≡ y → Ok x ≡ walked o (Ok y)
+  walked_is x y u e = ap Ok e ∙ sym (cond-false (nat_lt 1024 o.width) (Err 3) (Ok y) (le-ltb 1024 o.width u))
 
   -- what holds of each part holds of the list of the parts, and back
   pub parts_all : (P : Part → Type 0) (x : K) (n : ℕ) → ((s : ℕ) → s < n → 0 < o.level x s → P (part_of s (o.level x s))) → All P (parts_below o x n)
@@ -118,6 +163,15 @@ module _ {K : Type 0} (o : Ops K) where
         ap (o.join (alone o q)) (joined_push ps p) ∙ sym (join_assoc o L (alone o q) (joined o ps) (alone o p))
 
   module _ (L : Laws o) where
+    -- a value's parts are admitted, and so is each to which a walk comes
+    pub parts_admitted : (x : K) → All (λ p. o.admits p.slot p.level ≡ true) (parts o x)
+    parts_admitted x = parts_all (λ p. o.admits p.slot p.level ≡ true) x o.width (λ s _ l. L.levels.admitted x s l)
+
+    pub come_admitted : (x : K) (seen left next : List Part) (p : Part) → seen ++ left ≡ parts o x → left ≡ p ∷ next → o.admits p.slot p.level ≡ true
+    come_admitted x seen left next p e h =
+        (subst (All (λ q. o.admits q.slot q.level ≡ true)) h
+        (all_right (λ q. o.admits q.slot q.level ≡ true) seen left (subst (All (λ q. o.admits q.slot q.level ≡ true)) (sym e) (parts_admitted x)))).0
+
     -- each part of a value is under it, and it is under what is above them all
     pub part_under : (x : K) (s : ℕ) → 0 < o.level x s → o.under (o.part s (o.level x s)) x ≡ true
     part_under x s h =

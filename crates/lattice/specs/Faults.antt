@@ -1,5 +1,6 @@
 -- The numbers of a kind's refusals. Assumes nothing.
-use Rattle.std.specs.Prelude.{ℕ, Ok, Err, Result}
+use Rattle.std.specs.Prelude.{ℕ, Result}
+use Rattle.std.specs.Result.{result_map_both}
 use Rattle.lattice.specs.declared.fault.KindFault.{KindFault}
 use Rattle.lattice.specs.declared.fault.KindFault.TheVariants.{Wide, Actor, Place, Verb, Amount, Barred, Overflow}
 
@@ -14,5 +15,8 @@ number Overflow = 9
 
 -- an answer, a refusal by its number
 abbrev pub numbered : {A : Type 0} → Result A KindFault → Result A ℕ
-numbered (Ok x) = Ok x
-numbered (Err e) = Err (number e)
+numbered r = result_map_both (λ x. x) number r
+
+-- the same of a call that shows something and tells nothing else
+abbrev pub granted : {A : Type 0} → Result A KindFault → Result (Unit {0}) ℕ
+granted r = result_map_both (λ _. tt) number r

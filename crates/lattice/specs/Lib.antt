@@ -5,3 +5,4 @@ pub mod Laws
 pub mod Least
 pub mod Simple
 pub mod Wrapped
+pub mod Walks

@@ -2,57 +2,32 @@
 ghost use Rattle.std.specs.Prelude.{◌≡◌};
 ghost use Rattle.lattice.specs.Faults.{number};
 
-use std::error::Error;
-use std::fmt;
+use thiserror::Error;
 
-#[derive(Clone, Copy, PartialEq, Eq, Debug)]
+// Each has the number by which support knows it, and what to tell a person, of which no contract speaks.
+#[derive(Clone, Copy, PartialEq, Eq, Debug, Error)]
 pub enum KindFault {
-    // The kind has more than 1,024 slots.
-    Wide,
-    // The acting replica is 8 or more.
-    Actor,
-    // The place leads nowhere in the kind.
-    Place,
-    // The kind has no such verb.
-    Verb,
-    // The amount is outside the verb's range.
-    Amount,
-    // A two-phase set bars the verb.
-    Barred,
-    // A level would pass 4,294,967,295.
-    Overflow,
+    #[error("the kind has more than 1,024 slots")]
+    Wide = 3,
+    #[error("the acting replica is 8 or more")]
+    Actor = 4,
+    #[error("the place leads nowhere in the kind")]
+    Place = 5,
+    #[error("the kind has no such verb")]
+    Verb = 6,
+    #[error("the amount is outside the verb's range")]
+    Amount = 7,
+    #[error("the two-phase set bars the verb")]
+    Barred = 8,
+    #[error("a level would pass 4,294,967,295")]
+    Overflow = 9,
 }
 
 impl KindFault {
-    // The refusal's number, as support knows it.
+    // A `From` for each enum of faults would say the same in more lines.
     pub fn number(self) -> u8
         ensures { result ≡ number self }
     {
-        match self {
-            KindFault::Wide => 3,
-            KindFault::Actor => 4,
-            KindFault::Place => 5,
-            KindFault::Verb => 6,
-            KindFault::Amount => 7,
-            KindFault::Barred => 8,
-            KindFault::Overflow => 9,
-        }
+        self as u8
     }
 }
-
-// What to tell a person. No contract speaks of the words.
-impl fmt::Display for KindFault {
-    fn fmt<W: fmt::Write>(&self, f: &mut fmt::Formatter<W>) -> fmt::Result {
-        f.write_str(match self {
-            KindFault::Wide => "the kind has more than 1,024 slots",
-            KindFault::Actor => "the acting replica is 8 or more",
-            KindFault::Place => "the place leads nowhere in the kind",
-            KindFault::Verb => "the kind has no such verb",
-            KindFault::Amount => "the amount is outside the verb's range",
-            KindFault::Barred => "the two-phase set bars the verb",
-            KindFault::Overflow => "a level would pass 4,294,967,295",
-        })
-    }
-}
-
-impl Error for KindFault {}

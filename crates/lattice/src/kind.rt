@@ -17,11 +17,11 @@ pub trait Kind: Copy {
     fn width() -> u32
         ensures { result ≡ min ops.width 4294967295 };
 
-    // The value with no part.
+    // The value with no part. A kind need not derive a default.
     fn bottom() -> Self
         ensures { result ≡ ops.bottom };
 
-    // The level at a slot, 0 for none.
+    // The level at a slot, 0 for none: no kind that keeps the laws admits a level of 0.
     fn level(&self, slot: u16) -> u64
         ensures { result ≡ ops.level self.now slot };
 
@@ -39,12 +39,13 @@ pub trait Kind: Copy {
     fn join(&mut self, other: &Self)
         ensures { self.new ≡ ops.join self.old other.now };
 
-    // Joins the part and answers true; a part that is not admitted changes nothing and answers false.
+    // Joins the part and answers true; a part that is not admitted changes nothing and answers false, as at a set's `insert`.
     fn join_part(&mut self, part: Part) -> bool
         ensures answer { result ≡ ops.admits part.slot part.level }
         ensures after { self.new ≡ with_part ops self.old part };
 
-    // What the act of replica `actor` adds to the value held, or why it is refused.
+    // What the act of replica `actor` adds to the value held, or why it is refused. An act's place changes on its way down, and
+    // its actor does not.
     fn effect(&self, actor: u8, act: Act) -> Result<Self, KindFault>
         ensures { numbered result ≡ ops.effect self.now actor act };
 

@@ -3,7 +3,9 @@
 #![tactic(auto)]
 
 pub mod fault;
+pub mod iter;
 pub mod kind;
+pub mod narrow;
 pub mod part;
 pub mod refusal;
 pub mod show;

@@ -8,6 +8,7 @@ pub struct Part {
 }
 
 // What a replica is asked to do: a verb with its amount, and the place in a composed value where it is done.
+// A verb is a number, since each kind has verbs of its own, which only that kind can name.
 #[derive(Clone, Copy, PartialEq, Eq, Debug)]
 pub struct Act {
     pub place: u16,

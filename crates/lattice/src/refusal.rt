@@ -33,8 +33,6 @@ impl fmt::Display for Layer {
 // As support writes it down: `channel 12`.
 impl fmt::Display for Refusal {
     fn fmt<W: fmt::Write>(&self, f: &mut fmt::Formatter<W>) -> fmt::Result {
-        let layer = self.layer;
-        let number = self.number;
-        write!(f, "{layer} {number}")
+        write!(f, "{} {}", self.layer, self.number)
     }
 }

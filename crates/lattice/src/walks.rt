@@ -7,22 +7,17 @@ ghost use Rattle.lattice.specs.Ops.{difference, parts, walked};
 
 use crate::fault::KindFault;
 use crate::kind::Kind;
-use crate::part::Part;
+use crate::narrow::Narrow;
 
-// More slots than this are never walked: one walk, and with it every call above, stays short.
-const MOST_SLOTS: u32 = 1024;
-
-// Refuses a kind whose slots are too many to be walked. The answer depends on the kind alone.
+// Refuses a kind whose slots are too many to be walked, for who wants that answer alone.
 pub fn walkable<K: Kind>() -> Result<(), KindFault>
     ensures { numbered result ≡ walked K.ops (Ok tt) }
 {
-    if K::width() > MOST_SLOTS {
-        return Err(KindFault::Wide);
-    }
+    Narrow::<K>::check()?;
     Ok(())
 }
 
-// Whether two values are equal, which they are when each lies under the other.
+// Whether two values are equal, which they are when each lies under the other: a kind need not derive `==`.
 pub fn equal<K: Kind>(a: &K, b: &K) -> bool
     ensures { IsTrue result ↔ (a.now ≡ b.now) }
 {
@@ -33,21 +28,7 @@ pub fn equal<K: Kind>(a: &K, b: &K) -> bool
 pub fn count_parts<K: Kind>(value: &K) -> Result<u16, KindFault>
     ensures { numbered result ≡ walked K.ops (Ok (length (parts K.ops value.now))) }
 {
-    walkable::<K>()?;
-    Ok(parts_of(value))
-}
-
-fn parts_of<K: Kind>(value: &K) -> u16
-    requires { Usable K.ops }
-    ensures { result ≡ length (parts K.ops value.now) }
-{
-    let mut count = 0;
-    for slot in 0..K::width() as u16 {
-        if value.level(slot) > 0 {
-            count += 1;
-        }
-    }
-    count
+    Ok(Narrow::check()?.count(value))
 }
 
 // The difference of a from b: the join of the parts of a that are not under b. It is the least value that joined with
@@ -56,31 +37,17 @@ pub fn difference<K: Kind>(a: &K, b: &K) -> Result<K, KindFault>
     ensures answer { numbered result ≡ walked K.ops (Ok (difference K.ops a.now b.now)) }
     ensures least { IfOk result (Least K.ops a.now b.now) }
 {
-    walkable::<K>()?;
-    Ok(lacking(a, b))
-}
-
-fn lacking<K: Kind>(a: &K, b: &K) -> K
-    requires { Usable K.ops }
-    ensures answer { result ≡ difference K.ops a.now b.now }
-    ensures least { Least K.ops a.now b.now result }
-{
-    let mut out = K::bottom();
-    for slot in 0..K::width() as u16 {
-        let level = a.level(slot);
-        if level > 0 {
-            let part = Part { slot, level };
-            if !b.covers(part) {
-                out.join_part(part);
-            }
+    let narrow = Narrow::check()?;
+    let mut lacked = K::bottom();
+    for part in narrow.parts(a) {
+        if !b.covers(part) {
+            lacked.join_part(part);
         }
     }
-    out
+    Ok(lacked)
 }
 
 // For every kind: the difference of any two values is least in this sense.
-pub fn difference_stands<K: Kind>() -> u8
+pub fn difference_stands<K: Kind>()
     ensures { Usable K.ops → DifferenceLeast K.ops }
-{
-    0
-}
+{}

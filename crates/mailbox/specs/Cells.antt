@@ -13,13 +13,9 @@ region bs i = take (cell bs) (drop (i * cell bs) bs)
 abbrev pub told : List ℕ → ℕ
 told c = slice_index c 0 + 256 * slice_index c 1
 
--- the length of a cell's datagram: that number, or 0 where the cell is too short for it
-unfoldable pub said : List ℕ → ℕ
-said c = cond (nat_le (told c + 2) (length c)) (told c) 0
-
--- a cell's datagram, if it has one
-abbrev pub content : List ℕ → Option (List ℕ)
-content c = cond (said c == 0) None (Some (take (said c) (drop 2 c)))
+-- a cell's datagram, if it has one: as long as that number says, which is none where it is 0 or the cell is too short
+unfoldable pub content : List ℕ → Option (List ℕ)
+content c = cond (told c == 0) None (cond (nat_le (told c + 2) (length c)) (Some (take (told c) (drop 2 c))) None)
 
 -- the datagram in cell i of a buffer
 abbrev pub contents : List ℕ → ℕ → Option (List ℕ)

@@ -60,5 +60,5 @@ box_laws = record {
         go false x e = inl (subst (λ (y : Waiting). Memᴰ y (boxed s)) (sym k.is) (among (in_cell s) 8 k.i k.b k.below (sym e)))
 
     waits : (s : Mailbox) (to : ℕ) (b : List ℕ) (x : Bool) → nat_le 8 to ≡ x → cond x None (in_cell s to) ≡ Some b → Memᴰ (waiting to b) (boxed s)
-    waits s to b true x e = absurd (let z : ◌≡◌ {A = ℕ} 0 1 = cc in omega arith)
+    waits s to b true x e = cc
     waits s to b false x e = among (in_cell s) 8 to b (leb-false 8 to x) e

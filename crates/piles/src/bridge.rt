@@ -18,6 +18,6 @@ pub fn bridge<C: Channel, D: Channel>(
     let Some(len) = from.take(receiver, buf)? else {
         return Ok(false);
     };
-    to.put(receiver, &buf[0..len])?;
+    to.put(receiver, &buf[..len])?;
     Ok(true)
 }

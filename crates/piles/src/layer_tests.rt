@@ -42,8 +42,7 @@ fn losing_by_all_bits_drops_all() -> Result<(), Fail> {
             Step::Put(2, 1, 10_253, Answer::Refused(12)),
             Step::Take(8, 128, Answer::Refused(4)),
         ],
-    )?;
-    Ok(())
+    )
 }
 
 // The lowest bit first, and after 32 puts the pattern begins again.
@@ -52,13 +51,17 @@ fn losing_reads_its_pattern_from_the_lowest_bit() -> Result<(), Fail> {
     let mut buf = [0u8; 128];
     let mut layer = Losing::new(0b0110, queue(&mut buf)?);
     for fill in 0..100u8 {
-        run(&mut layer, &[Step::Put(2, fill, 1, Answer::Accepted)])?;
-        let bit = fill % 32;
-        if bit == 1 || bit == 2 {
-            run(&mut layer, &[Step::Take(2, 128, Answer::Nothing)])?;
-        } else {
-            run(&mut layer, &[Step::Take(2, 128, Answer::Taken(fill, 1))])?;
-        }
+        let answer = match fill % 32 {
+            1 | 2 => Answer::Nothing,
+            _ => Answer::Taken(fill, 1),
+        };
+        run(
+            &mut layer,
+            &[
+                Step::Put(2, fill, 1, Answer::Accepted),
+                Step::Take(2, 128, answer),
+            ],
+        )?;
     }
     Ok(())
 }
@@ -82,8 +85,7 @@ fn losing_turns_only_when_it_accepts() -> Result<(), Fail> {
             Step::Put(2, 3, 100, Answer::Accepted),
             Step::Take(2, 100, Answer::Taken(3, 100)),
         ],
-    )?;
-    Ok(())
+    )
 }
 
 #[test]
@@ -140,8 +142,7 @@ fn holding_by_a_mixed_pattern() -> Result<(), Fail> {
             Step::Take(2, 128, Answer::Taken(4, 3)),
             Step::Take(2, 128, Answer::Nothing),
         ],
-    )?;
-    Ok(())
+    )
 }
 
 // The held datagram is ready for its own receiver alone, once nothing below is ready for it; taking it empties the layer.
@@ -165,8 +166,7 @@ fn the_held_datagram_is_taken_last() -> Result<(), Fail> {
             Step::Take(2, 128, Answer::Taken(3, 5)),
             Step::Take(2, 128, Answer::Nothing),
         ],
-    )?;
-    Ok(())
+    )
 }
 
 // Keeping back asks for no space below; what is released and refused there stays held.
@@ -187,8 +187,7 @@ fn a_held_datagram_that_finds_no_space_stays_held() -> Result<(), Fail> {
             Step::Take(2, 10_252, Answer::Taken(1, 10_252)),
             Step::Take(3, 128, Answer::Taken(3, 60)),
         ],
-    )?;
-    Ok(())
+    )
 }
 
 // A refused put turns no pattern and releases nothing.
@@ -208,6 +207,5 @@ fn holding_turns_only_when_it_accepts() -> Result<(), Fail> {
             Step::Take(2, 128, Answer::Taken(1, 9)),
             Step::Take(8, 128, Answer::Refused(4)),
         ],
-    )?;
-    Ok(())
+    )
 }

@@ -10,13 +10,12 @@ use queue::queue::Queue;
 use std::test::Fail;
 
 // Losing over holding over a queue.
-fn rough<'a>(
+fn rough(
     losing: u32,
     holding: u32,
-    buf: &'a mut [u8],
-) -> Result<Losing<Holding<Queue<'a>>>, ChannelFault> {
-    let line = queue(buf)?;
-    Ok(Losing::new(losing, Holding::new(holding, line)))
+    buf: &mut [u8],
+) -> Result<Losing<Holding<Queue<'_>>>, ChannelFault> {
+    Ok(Losing::new(losing, Holding::new(holding, queue(buf)?)))
 }
 
 // Puts datagrams filled with 1 to 6 for receiver 5.
@@ -28,8 +27,8 @@ fn put_six<C: Channel>(channel: &mut C) -> Result<(), Fail> {
 }
 
 fn takes<C: Channel>(channel: &mut C, fills: &[u8]) -> Result<(), Fail> {
-    for fill in fills {
-        run(channel, &[Step::Take(5, 128, Answer::Taken(*fill, 9))])?;
+    for &fill in fills {
+        run(channel, &[Step::Take(5, 128, Answer::Taken(fill, 9))])?;
     }
     run(channel, &[Step::Take(5, 128, Answer::Nothing)])
 }
@@ -40,33 +39,28 @@ fn losing_over_holding_over_a_queue() -> Result<(), Fail> {
     let mut buf = [0u8; 128];
     let mut pile = rough(0b100, 0b101, &mut buf)?;
     put_six(&mut pile)?;
-    takes(&mut pile, &[2, 1, 5, 4, 6])?;
-    Ok(())
+    takes(&mut pile, &[2, 1, 5, 4, 6])
 }
 
 // The other way up: of six puts the first and the third are kept back; the losing layer drops the third that reaches it.
 #[test]
 fn holding_over_losing_over_a_queue() -> Result<(), Fail> {
     let mut buf = [0u8; 128];
-    let line = queue(&mut buf)?;
-    let mut pile = Holding::new(0b101, Losing::new(0b100, line));
+    let mut pile = Holding::new(0b101, Losing::new(0b100, queue(&mut buf)?));
     put_six(&mut pile)?;
-    takes(&mut pile, &[2, 1, 3, 5, 6])?;
-    Ok(())
+    takes(&mut pile, &[2, 1, 3, 5, 6])
 }
 
 // A mailbox below: only the last that was put is there, again and again.
 #[test]
 fn layers_over_a_mailbox() -> Result<(), Fail> {
     let mut buf = [0u8; 128];
-    let cells = mailbox(&mut buf)?;
-    let mut pile = Losing::new(0b100000, Holding::new(0b1, cells));
+    let mut pile = Losing::new(0b100000, Holding::new(0b1, mailbox(&mut buf)?));
     put_six(&mut pile)?;
     for _ in 0..3 {
         run(&mut pile, &[Step::Take(5, 128, Answer::Taken(5, 9))])?;
     }
-    run(&mut pile, &[Step::Take(4, 128, Answer::Nothing)])?;
-    Ok(())
+    run(&mut pile, &[Step::Take(4, 128, Answer::Nothing)])
 }
 
 // A refusal deep in the pile is the pile's, and changes nothing in it.
@@ -110,6 +104,5 @@ fn a_bridge_between_two_channels(rt: HostRuntime) -> Result<(), Fail> {
     }
     assert!(rt; !carry(&mut from, &mut to)?);
     assert_eq!(rt; from.counts(), (6, 5));
-    run(&mut to, &[Step::Take(5, 128, Answer::Taken(6, 9))])?;
-    Ok(())
+    run(&mut to, &[Step::Take(5, 128, Answer::Taken(6, 9))])
 }

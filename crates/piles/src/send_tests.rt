@@ -6,7 +6,6 @@ use channel::send::{SendFault, send};
 use kinds::counter::Counter;
 use lattice::part::Part;
 use lattice::refusal::{Layer, Refusal};
-use queue::queue::Queue;
 use std::test::Fail;
 use wire::datagram::Header;
 use wire::draft::{Draft, Sealed};
@@ -22,10 +21,7 @@ fn header(to: u8, number: u32) -> Header {
 
 // Who refused, if anyone did.
 fn refusal(answer: Result<(), SendFault>) -> Option<Refusal> {
-    match answer {
-        Ok(()) => None,
-        Err(fault) => Some(fault.refusal()),
-    }
+    answer.err().map(|fault| fault.refusal())
 }
 
 fn by(layer: Layer, number: u8) -> Option<Refusal> {
@@ -40,10 +36,7 @@ fn a_sealed_delta_is_put_for_its_receiver(rt: HostRuntime) -> Result<(), Fail> {
     let mut draft = Draft::begin::<Counter>(header(3, 1), &mut buf)?;
     draft.add::<Counter>(&mut buf, Part { slot: 0, level: 5 })?;
     let sealed = draft.seal();
-    assert_eq!(rt;
-        refusal(send::<Counter, Queue>(&sealed, &buf, &mut line)),
-        None
-    );
+    assert_eq!(rt; refusal(send::<Counter, _>(&sealed, &buf, &mut line)), None);
     let mut out = [0u8; 64];
     assert_eq!(rt; line.take(3, &mut out)?, Some(22));
     assert!(rt; out[0..22] == buf[0..22]);
@@ -60,22 +53,22 @@ fn other_bytes_are_refused_by_the_wire(rt: HostRuntime) -> Result<(), Fail> {
     let mut buf = [0u8; 10];
     write_ack(header(3, 2), &mut buf)?;
     assert_eq!(rt;
-        refusal(send::<Counter, Queue>(&sealed, &buf, &mut line)),
+        refusal(send::<Counter, _>(&sealed, &buf, &mut line)),
         by(Layer::Wire, 16)
     );
     write_ack(header(2, 1), &mut buf)?;
     assert_eq!(rt;
-        refusal(send::<Counter, Queue>(&sealed, &buf, &mut line)),
+        refusal(send::<Counter, _>(&sealed, &buf, &mut line)),
         by(Layer::Wire, 16)
     );
     write_ack(header(3, 1), &mut buf)?;
     assert_eq!(rt;
-        refusal(send::<Counter, Queue>(&sealed, &buf[0..9], &mut line)),
+        refusal(send::<Counter, _>(&sealed, &buf[0..9], &mut line)),
         by(Layer::Wire, 13)
     );
     buf[2] = 9;
     assert_eq!(rt;
-        refusal(send::<Counter, Queue>(&sealed, &buf, &mut line)),
+        refusal(send::<Counter, _>(&sealed, &buf, &mut line)),
         by(Layer::Wire, 14)
     );
     for to in 0..8u8 {
@@ -95,11 +88,11 @@ fn another_count_is_refused_by_the_wire(rt: HostRuntime) -> Result<(), Fail> {
     let mut draft = Draft::begin::<Counter>(header(3, 1), &mut buf)?;
     draft.add::<Counter>(&mut buf, Part { slot: 0, level: 5 })?;
     assert_eq!(rt;
-        refusal(send::<Counter, Queue>(&sealed, &buf, &mut line)),
+        refusal(send::<Counter, _>(&sealed, &buf, &mut line)),
         by(Layer::Wire, 16)
     );
     assert_eq!(rt;
-        refusal(send::<Counter, Queue>(&sealed, &empty, &mut line)),
+        refusal(send::<Counter, _>(&sealed, &empty, &mut line)),
         None
     );
     Ok(())
@@ -114,25 +107,22 @@ fn the_channel_refuses_last(rt: HostRuntime) -> Result<(), Fail> {
     let sealed = Sealed::ack(header(9, 1));
     write_ack(header(9, 2), &mut buf)?;
     assert_eq!(rt;
-        refusal(send::<Counter, Losing<Queue>>(&sealed, &buf, &mut line)),
+        refusal(send::<Counter, _>(&sealed, &buf, &mut line)),
         by(Layer::Wire, 16)
     );
     write_ack(header(9, 1), &mut buf)?;
     assert_eq!(rt;
-        refusal(send::<Counter, Losing<Queue>>(&sealed, &buf, &mut line)),
+        refusal(send::<Counter, _>(&sealed, &buf, &mut line)),
         by(Layer::Channel, 4)
     );
     let sealed = Sealed::ack(header(1, 1));
     write_ack(header(1, 1), &mut buf)?;
     run(&mut line, &[Step::Put(2, 7, 124, Answer::Accepted)])?;
     assert_eq!(rt;
-        refusal(send::<Counter, Losing<Queue>>(&sealed, &buf, &mut line)),
+        refusal(send::<Counter, _>(&sealed, &buf, &mut line)),
         by(Layer::Channel, 12)
     );
     run(&mut line, &[Step::Take(2, 128, Answer::Taken(7, 124))])?;
-    assert_eq!(rt;
-        refusal(send::<Counter, Losing<Queue>>(&sealed, &buf, &mut line)),
-        None
-    );
+    assert_eq!(rt; refusal(send::<Counter, _>(&sealed, &buf, &mut line)), None);
     Ok(())
 }

@@ -2,4 +2,3 @@ pub mod Heads
 pub mod Packing
 pub mod Walks
 pub mod Queued
-pub mod Calls

@@ -1,129 +1,97 @@
 -- What a search and the calls of a queue say of the datagrams that its bytes hold.
-use Rattle.std.proofs.Common.{◌≡◌, ℕ, ◌+◌, ◌≤◌, min, Bool, true, false, cond, eqb, leb, List, [], ◌∷◌, ◌++◌, length, take, drop, Some, None, sym, refl, ap, ◌∙◌, ap₂, append_assoc, append-nil, arith, length-append, length-take, take_all, take-take, drop-drop, take_at, drop_at, eq-eqb, leb-false, leb-true}
-use Rattle.std.proofs.lemmas.List.{drop-take}
+use Rattle.std.proofs.Common.{◌≡◌, ℕ, ◌+◌, ◌-◌, ◌<◌, ◌≤◌, Bool, true, false, cond, eqb, List, [], ◌∷◌, ◌++◌, length, take, drop, Some, None, sym, refl, subst, ap, ◌∙◌, ap₂, append_assoc, append-nil, arith, length-append, length-take, drop-drop, take_at, drop_at, eq-eqb}
+use lib.Seq.{take-append-le}
+use borrow.Rule.Slice.PartMut.{put_mid, post_of}
 use Rattle.channel.specs.Meaning.{Waiting, waiting}
-use Rattle.queue.specs.Packed.{encode, encodes, decode, first_for, without, cost, fine, all_fine, Walk, Found, none, found}
-use Rattle.queue.proofs.Heads.{fine_is}
-use Rattle.queue.proofs.Packing.{length_encode, encodes_snoc, length_encodes, fine_snoc, first_append, without_append}
+use Rattle.queue.specs.Packed.{encode, encodes, decode, first_for, without, cost, Walk, Ended, Reached, First}
+use Rattle.queue.proofs.Heads.{is_fine}
+use Rattle.queue.proofs.Packing.{length_encode, encodes_snoc, whole, cost_append, fine_snoc, first_append, without_append}
 use Rattle.queue.proofs.Packing.{decode_none, decode_append, decode_cons, decode_encodes}
-use Rattle.queue.proofs.Walks.{within}
 
--- the walk came to the end of the records
-pub record End (bs : List ℕ) (at : ℕ) : Type 0 where
-  pub past : List Waiting
-  pub all : decode bs ≡ past
-  pub place : at ≡ cost (decode bs)
-  pub front : take at bs ≡ encodes past
-  pub good : all_fine past ≡ true
-  pub inside : at ≤ length bs
-
-all_past : (bs : List ℕ) (to at : ℕ) (w : Walk bs to at) → decode w.suffix ≡ [] → decode bs ≡ w.past
-all_past bs to at w e =
+all_past : {bs : List ℕ} {to at : ℕ} (w : Walk bs to at) → decode w.suffix ≡ [] → decode bs ≡ w.past
+all_past w e =
     ap decode w.split ∙ decode_append w.past w.suffix w.good ∙ ap (λ (x : List Waiting). w.past ++ x) e ∙ append-nil w.past
 
-pub end_of : (bs : List ℕ) (to at len : ℕ) → 8 ≤ to → Found bs to at len → End bs at
-end_of bs to at len h (none w e z) =
-    let all : decode bs ≡ w.past = all_past bs to at w (decode_none w.suffix e) in
-    record {
-      past = w.past;
-      all = all;
-      place = w.place ∙ length_encodes w.past ∙ ap cost (sym all);
-      front = ap (take at) w.split ∙ take_at (encodes w.past) w.suffix at (sym w.place);
-      good = w.good;
-      inside = within w;
-    }
-end_of bs to at len h (found w b more e f l) = absurd (let k = (fine_is (waiting to b) f).to_is in omega arith)
-
-front_of : (u at : ℕ) (xs : List ℕ) → at ≤ length (take u xs) → take at (take u xs) ≡ take at xs
-front_of u at xs h = let l = length-take u xs in let less : at ≤ u = omega arith in take-take at u xs less
-
--- a record stored at the end
-pub stored_decodes : (xs ys : List ℕ) (u at n to : ℕ) (b : List ℕ) → End (take u xs) at → fine (waiting to b) ≡ true
-    → ys ≡ take at xs ++ (encode (waiting to b) ++ drop (at + (4 + length b)) xs) → n ≡ at + (4 + length b)
-    → decode (take n ys) ≡ decode (take u xs) ++ (waiting to b ∷ [])
-stored_decodes xs ys u at n to b k f e en =
-    let d = waiting to b in
-    let rest = drop (at + (4 + length b)) xs in
-    let past = k.past in
-    let start : take at xs ≡ encodes past = sym (front_of u at xs k.inside) ∙ k.front in
-    let one = encodes_snoc past d in
-    let is : ys ≡ encodes (past ++ (d ∷ [])) ++ rest =
-    e ∙ ap (λ (x : List ℕ). x ++ (encode d ++ rest)) start ∙ sym (append_assoc (encodes past) (encode d) rest) ∙ ap (λ (x : List ℕ). x ++ rest) (sym one) in
-    let long : length (encodes (past ++ (d ∷ []))) ≡ n =
-    ap length one ∙ omega (arith, length-append (encodes past) (encode d), length_encode d, length_encodes past, k.place, ap cost k.all) in
-    ap decode (ap (take n) is ∙ take_at (encodes (past ++ (d ∷ []))) rest n long)
-    ∙ decode_encodes (past ++ (d ∷ [])) (fine_snoc past d k.good f)
-    ∙ ap (λ (x : List Waiting). x ++ (d ∷ [])) (sym k.all)
-
 -- a search that found nothing
-pub none_ready : (bs : List ℕ) (to at len : ℕ) → Found bs to at len → len ≡ 0 → first_for to (decode bs) ≡ None
-none_ready bs to at len (none w e z) h = ap (first_for to) (all_past bs to at w (decode_none w.suffix e)) ∙ w.others
-none_ready bs to at len (found w b more e f l) h = absurd (let k = (fine_is (waiting to b) f).low in omega arith)
+pub none_ready : {bs : List ℕ} {to : ℕ} → Ended bs to → first_for to (decode bs) ≡ None
+none_ready {to = to} e = ap (first_for to) (all_past e.walk (decode_none e.walk.suffix e.over)) ∙ e.walk.others
 
--- a search that found a record
-pub record Taken (bs : List ℕ) (to at len : ℕ) : Type 0 where
-  pub body : List ℕ
-  pub ready : first_for to (decode bs) ≡ Some body
-  pub long : len ≡ length body
-  pub room : at + (4 + len) ≤ length bs
-  pub reads : take len (drop (at + 4) bs) ≡ body
-  pub leaves : decode (take at bs ++ drop (at + (4 + len)) bs) ≡ without to (decode bs)
-
-pub taken : (bs : List ℕ) (to at len : ℕ) → Found bs to at len → (len ≡ 0 → ⊥) → Taken bs to at len
+-- a search that found a record, whose datagram is then cut from the bytes
+pub first_is : {bs : List ℕ} {to at len : ℕ} → Reached bs to at len → First bs to at (take ((at + 4 + len) - (at + 4)) (drop (at + 4) bs))
 unfolding encode first_for without
-taken bs to at len (none w e z) h = absurd (h z)
-taken bs to at len (found w b more e f l) h =
+first_is {bs = bs} {to = to} {at = at} {len = len} r =
+    let b = r.body in
+    let more = r.more in
     let d = waiting to b in
-    let past = w.past in
-    let is : bs ≡ encodes past ++ (encode d ++ more) = w.split ∙ ap (λ (x : List ℕ). encodes past ++ x) e in
+    let past = r.walk.past in
+    let is : bs ≡ encodes past ++ (encode d ++ more) = r.walk.split ∙ ap (λ (x : List ℕ). encodes past ++ x) r.is in
     let all : decode bs ≡ past ++ (d ∷ decode more) =
-    ap decode is ∙ decode_append past (encode d ++ more) w.good ∙ ap (λ (x : List Waiting). past ++ x) (decode_cons d more f) in
+    ap decode is ∙ decode_append past (encode d ++ more) r.walk.good ∙ ap (λ (x : List Waiting). past ++ x) (decode_cons d more r.good) in
     let same : eqb to to ≡ true = eq-eqb to to refl in
-    let from : drop at bs ≡ encode d ++ more = ap (drop at) is ∙ drop_at (encodes past) (encode d ++ more) at (sym w.place) in
-    let four : drop (at + 4) bs ≡ b ++ more = sym (drop-drop 4 at bs) ∙ ap (drop 4) from in
-    let behind : drop (at + (4 + len)) bs ≡ more =
-    sym (drop-drop (4 + len) at bs) ∙ ap (drop (4 + len)) from ∙ drop_at (encode d) more (4 + len) (length_encode d ∙ ap (λ (x : ℕ). 4 + x) (sym l)) in
-    let front : take at bs ≡ encodes past = ap (take at) is ∙ take_at (encodes past) (encode d ++ more) at (sym w.place) in
-    record {
-      body = b;
-      ready = ap (first_for to) all ∙ first_append to past (d ∷ decode more) w.others ∙ ap (λ (t : Bool). cond t (Some b) (first_for to (decode more))) same;
-      long = l;
-      room = omega (arith, ap length is, length-append (encodes past) (encode d ++ more), length-append (encode d) more, length_encode d, w.place, l);
-      reads = ap (take len) four ∙ take_at b more len (sym l);
+    let from : drop at bs ≡ encode d ++ more = ap (drop at) is ∙ drop_at (encodes past) (encode d ++ more) at (sym r.walk.place) in
+    let size : (at + 4 + len) - (at + 4) ≡ length b = omega (arith, r.long) in
+    let cut : take ((at + 4 + len) - (at + 4)) (drop (at + 4) bs) ≡ b = ap (take _) (sym (drop-drop 4 at bs) ∙ ap (drop 4) from) ∙ take_at b more _ (sym size) in
+    let behind : drop (at + (4 + length b)) bs ≡ more =
+    sym (drop-drop (4 + length b) at bs) ∙ ap (drop (4 + length b)) from ∙ drop_at (encode d) more (4 + length b) (length_encode d) in
+    let front : take at bs ≡ encodes past = ap (take at) is ∙ take_at (encodes past) (encode d ++ more) at (sym r.walk.place) in
+    subst (First bs to at) (sym cut) (record {
+      ready = ap (first_for to) all ∙ first_append to past (d ∷ decode more) r.walk.others ∙ ap (λ (t : Bool). cond t (Some b) (first_for to (decode more))) same;
+      room = omega (arith, ap length is, length-append (encodes past) (encode d ++ more), length-append (encode d) more, length_encode d, r.walk.place);
       leaves =
-          ap₂ (λ (x y : List ℕ). decode (x ++ y)) front behind ∙ decode_append past more w.good
-          ∙ sym (ap (without to) all ∙ without_append to past (d ∷ decode more) w.others
+          ap₂ (λ (x y : List ℕ). decode (x ++ y)) front behind ∙ decode_append past more r.walk.good
+          ∙ sym (ap (without to) all ∙ without_append to past (d ∷ decode more) r.walk.others
           ∙ ap (λ (t : Bool). past ++ cond t (decode more) (d ∷ without to (decode more))) same);
-    }
+    })
 
--- bytes from which the record that was found is cut
-pub cut_out : {bs : List ℕ} {to at len : ℕ} (cs : List ℕ) → Taken bs to at len → cs ≡ take at bs ++ drop (at + (4 + len)) bs
-    → decode cs ≡ without to (decode bs)
-cut_out cs t e = ap decode e ∙ t.leaves
+-- where it is cut
+pub reached_room : {bs : List ℕ} {to at len : ℕ} → Reached bs to at len → at + (4 + len) ≤ length bs
+reached_room {bs = bs} {to = to} r =
+    let past = r.walk.past in
+    let d = waiting to r.body in
+    omega (arith, ap length (r.walk.split ∙ ap (λ (x : List ℕ). encodes past ++ x) r.is), length-append (encodes past) (encode d ++ r.more), length-append (encode d) r.more, length_encode d, r.walk.place, r.long)
 
--- a length beyond the end takes what the end takes
-pub take_least : (u e : ℕ) (xs : List ℕ) → e ≡ min u (length xs) → take e xs ≡ take u xs
-take_least u e xs h = go (leb u (length xs)) refl
+-- a record stored behind others, at the front of the free bytes
+module _ (xs zs r : List ℕ) (u k to : ℕ) (b : List ℕ) (within : u ≤ length xs) (packed : cost (decode (take u xs)) ≡ u) (known : to < 8) (some : 1 ≤ length b) (short : length b ≤ 10252)
+    (is : zs ≡ encode (waiting to b) ++ r) where
+  pub stored_decodes : decode (take (u + (4 + length b)) (put_mid u k xs zs)) ≡ decode (take u xs) ++ (waiting to b ∷ [])
+  stored_decodes =
+      let d = waiting to b in
+      let bs = take u xs in
+      let ws = decode bs in
+      let free = post_of u k xs in
+      let long : length bs ≡ u = omega (arith, length-take u xs) in
+      let p = whole bs (packed ∙ sym long) in
+      let one : bs ++ encode d ≡ encodes (ws ++ (d ∷ [])) = ap (λ (x : List ℕ). x ++ encode d) p.is ∙ sym (encodes_snoc ws d) in
+      let end : length (bs ++ encode d) ≡ u + (4 + length b) = omega (arith, length-append bs (encode d), length_encode d) in
+      let all : put_mid u k xs zs ≡ (bs ++ encode d) ++ (r ++ free) =
+      ap (λ (x : List ℕ). bs ++ (x ++ free)) is ∙ ap (λ (x : List ℕ). bs ++ x) (append_assoc (encode d) r free) ∙ sym (append_assoc bs (encode d) (r ++ free)) in
+      ap decode (ap (take (u + (4 + length b))) all ∙ take_at (bs ++ encode d) (r ++ free) _ end ∙ one)
+      ∙ decode_encodes (ws ++ (d ∷ [])) (fine_snoc ws d p.good (is_fine d (record { to_is = known; low = some; high = short })))
+
+  -- and so the bytes in use are still all records
+  pub stored_cost : cost (decode (take (u + (4 + length b)) (put_mid u k xs zs))) ≡ u + (4 + length b)
+  unfolding cost
+  stored_cost = ap cost stored_decodes ∙ omega (arith, cost_append (decode (take u xs)) (waiting to b ∷ []))
+
+-- what a datagram that is taken frees
+cost_without : (to : ℕ) (ws : List Waiting) (b : List ℕ) → first_for to ws ≡ Some b → cost ws ≡ 4 + length b + cost (without to ws)
+unfolding first_for without cost
+cost_without to [] b e = cc
+cost_without to (w ∷ ws) b e = go (eqb w.to to) e (cost_without to ws b)
   where
-    go : (t : Bool) → leb u (length xs) ≡ t → take e xs ≡ take u xs
-    go true l = let k = leb-true u (length xs) l in let x : e ≡ u = omega arith in ap (λ (n : ℕ). take n xs) x
-    go false l = let k = leb-false u (length xs) l in take_all e xs (omega arith) ∙ sym (take_all u xs (omega arith))
+    go : (t : Bool) → cond t (Some w.bytes) (first_for to ws) ≡ Some b → (first_for to ws ≡ Some b → cost ws ≡ 4 + length b + cost (without to ws))
+        → 4 + length w.bytes + cost ws ≡ 4 + length b + cost (cond t ws (w ∷ without to ws))
+    go true x k = let y : w.bytes ≡ b = cc in omega (arith, ap length y)
+    go false x k = omega (arith, k x)
 
--- a part read in the first bytes is read so in the whole
-read_within : (u from len : ℕ) (xs b : List ℕ) → from + len ≤ length (take u xs) → take len (drop from (take u xs)) ≡ b → take len (drop from xs) ≡ b
-read_within u from len xs b h e =
-    let l = length-take u xs in
-    let less : from + len ≤ u = omega arith in
-    sym (drop-take from len xs) ∙ ap (drop from) (sym (take-take (from + len) u xs less)) ∙ drop-take from len (take u xs) ∙ e
+-- what is left of the first u bytes once that record's gap is closed
+module _ (xs zs : List ℕ) (u to at len : ℕ) (b : List ℕ) (within : u ≤ length xs) (same : length zs ≡ length (take u xs)) (f : First (take u xs) to at b) (l : len ≡ length b)
+    (is : take (length (take u xs) - (4 + len)) zs ≡ take at (take u xs) ++ drop (at + (4 + len)) (take u xs)) where
+  pub closed : decode (take (u - (4 + len)) (zs ++ drop u xs)) ≡ without to (decode (take u xs))
+  closed =
+      let long : length (take u xs) ≡ u = omega (arith, length-take u xs) in
+      ap decode (take-append-le (u - (4 + len)) zs (drop u xs) (omega (arith, same, long)) ∙ ap (λ (x : ℕ). take (x - (4 + len)) zs) (sym long)
+      ∙ is ∙ ap (λ (n : ℕ). take at (take u xs) ++ drop (at + (4 + n)) (take u xs)) l) ∙ f.leaves
 
--- so is a datagram that was copied to the front of a buffer
-pub copied_out : (u at len : ℕ) (xs b o o' : List ℕ) → (at + 4) + len ≤ length (take u xs) → take len (drop (at + 4) (take u xs)) ≡ b → len ≡ length b
-    → o' ≡ take len (drop (at + 4) xs) ++ drop len o → o' ≡ b ++ drop (length b) o
-copied_out u at len xs b o o' h e l f =
-    f ∙ ap₂ (λ (x : List ℕ) (n : ℕ). x ++ drop n o) (read_within u (at + 4) len xs b h e) l
-
--- a gap closed in the first bytes
-pub closed : (u e n at gap : ℕ) (xs ys : List ℕ) → at + gap ≤ length (take u xs) → take e xs ≡ take u xs
-    → take n ys ≡ take at xs ++ drop (at + gap) (take e xs) → take n ys ≡ take at (take u xs) ++ drop (at + gap) (take u xs)
-closed u e n at gap xs ys h whole f =
-    f ∙ ap₂ (λ (x y : List ℕ). x ++ drop (at + gap) y) (sym (front_of u at xs (omega arith))) whole
+  pub closed_cost : cost (decode (take u xs)) ≡ u → cost (decode (take (u - (4 + len)) (zs ++ drop u xs))) ≡ u - (4 + len)
+  closed_cost k = ap cost closed ∙ omega (arith, cost_without to (decode (take u xs)) b f.ready, k, l)

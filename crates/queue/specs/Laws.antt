@@ -1,6 +1,6 @@
 -- A queue keeps the laws of a channel. Assumes nothing.
 use Rattle.std.specs.Prelude.{◌≡◌, ℕ, Bool, true, false, cond, ◌⊎◌, List, [], ◌∷◌, ◌++◌, Some, ◌==◌, refl}
-use Rattle.std.proofs.Common.{sym, ap₂, subst, inl, inr, ⊎_elim, arith, eqb-true}
+use Rattle.std.proofs.Common.{sym, ap₂, subst, inl, inr, ⊎_elim, eqb-true}
 use mathlib.Core.List.Memᴰ
 use mathlib.Core.List.{Memᴰ}
 use Rattle.channel.specs.Meaning.{Waiting, Laws, waiting}
@@ -10,7 +10,7 @@ use Rattle.queue.specs.Queue.{queued, queue_ready, QueuePuts, QueueTakes}
 -- the first that waits for a receiver waits
 first_waits : (to : ℕ) (ws : List Waiting) (b : List ℕ) → first_for to ws ≡ Some b → Memᴰ (waiting to b) ws
 unfolding first_for
-first_waits to [] b e = absurd (let z : ◌≡◌ {A = ℕ} 0 1 = cc in omega arith)
+first_waits to [] b e = cc
 first_waits to (w ∷ ws) b e = go (w.to == to) refl e (first_waits to ws b)
   where
     go : (t : Bool) → (w.to == to) ≡ t → cond t (Some w.bytes) (first_for to ws) ≡ Some b

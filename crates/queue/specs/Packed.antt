@@ -1,6 +1,6 @@
 -- Datagrams packed one after the other: each is a record of its receiver, its length in two bytes, the low one first, a 0, and its bytes.
 -- Assumes nothing.
-use Rattle.std.specs.Prelude.{◌≡◌, ℕ, zero, suc, ◌+◌, ◌*◌, ◌/◌, ◌%◌, Bool, true, false, cond, List, [], ◌∷◌, ◌++◌, length, take, drop, Some, None, Option, ◌==◌, nat_le, nat_lt, slice_index}
+use Rattle.std.specs.Prelude.{◌≡◌, ℕ, zero, suc, ◌+◌, ◌*◌, ◌/◌, ◌%◌, ◌≤◌, Bool, true, cond, ◌&&◌, List, [], ◌∷◌, ◌++◌, length, take, drop, Some, None, Option, ◌==◌, nat_le, nat_lt, slice_index}
 use Rattle.channel.specs.Meaning.{Waiting, waiting, sized}
 
 -- the record of a datagram
@@ -18,18 +18,16 @@ told bs = slice_index bs 1 + 256 * slice_index bs 2
 
 -- a record's head stands at the front of some bytes, and the bytes hold the record
 abbrev pub stands : List ℕ → Bool
-stands bs =
-    cond (nat_le 8 (slice_index bs 0)) false
-    (cond (nat_lt (slice_index bs 1) 256) (cond (slice_index bs 3 == 0) (cond (nat_le (told bs) 10252) (nat_le (4 + told bs) (length bs)) false) false) false)
+stands bs = nat_lt (slice_index bs 0) 8 && (nat_lt (slice_index bs 1) 256 && (slice_index bs 3 == 0 && (sized (told bs) && nat_le (4 + told bs) (length bs))))
 
--- the length of the datagram whose record is at the front, or 0 where none stands there
-unfoldable pub lead : List ℕ → ℕ
-lead bs = cond (stands bs) (told bs) 0
+-- the length of the datagram whose record is at the front, if one stands there
+unfoldable pub lead : List ℕ → Option ℕ
+lead bs = cond (stands bs) (Some (told bs)) None
 
 -- the datagrams of the records at the front of some bytes, at most so many
 unfoldable pub records : ℕ → List ℕ → List Waiting
 records zero bs = []
-records (suc n) bs = cond (lead bs == 0) [] (waiting (slice_index bs 0) (take (lead bs) (drop 4 bs)) ∷ records n (drop (4 + lead bs) bs))
+records (suc n) bs = elim (lead bs) [ None ↦ [] | Some k ↦ waiting (slice_index bs 0) (take k (drop 4 bs)) ∷ records n (drop (4 + k) bs) ]
 
 -- the datagrams that some bytes hold: their records up to the first place where none stands
 unfoldable pub decode : List ℕ → List Waiting
@@ -52,12 +50,12 @@ cost (w ∷ ws) = 4 + length w.bytes + cost ws
 
 -- a datagram that may wait: for one of eight receivers, and of 1 to 10,252 bytes
 abbrev pub fine : Waiting → Bool
-fine w = cond (nat_le 8 w.to) false (sized (length w.bytes))
+fine w = nat_lt w.to 8 && sized (length w.bytes)
 
 -- each of some may
 unfoldable pub all_fine : List Waiting → Bool
 all_fine [] = true
-all_fine (w ∷ ws) = cond (fine w) (all_fine ws) false
+all_fine (w ∷ ws) = fine w && all_fine ws
 
 -- where the walk for a receiver stands: at a byte place, past records for others
 pub record Walk (bs : List ℕ) (to at : ℕ) : Type 0 where
@@ -68,7 +66,28 @@ pub record Walk (bs : List ℕ) (to at : ℕ) : Type 0 where
   pub good : all_fine past ≡ true
   pub others : first_for to past ≡ None
 
--- what the search for a receiver's first record answers: its place and length, or the end of the records and a length of 0
-pub data Found (bs : List ℕ) (to at len : ℕ) : Type 0 where
-  none : (w : Walk bs to at) → lead w.suffix ≡ 0 → len ≡ 0 → Found bs to at len
-  found : (w : Walk bs to at) (b more : List ℕ) → w.suffix ≡ encode (waiting to b) ++ more → fine (waiting to b) ≡ true → len ≡ length b → Found bs to at len
+-- the walk for a receiver came to a place where no record stands
+pub record Ended (bs : List ℕ) (to : ℕ) : Type 0 where
+  pub at : ℕ
+  pub walk : Walk bs to at
+  pub over : lead walk.suffix ≡ None
+
+-- it came to a record for the receiver, with a datagram of so many bytes
+pub record Reached (bs : List ℕ) (to at len : ℕ) : Type 0 where
+  pub walk : Walk bs to at
+  pub body : List ℕ
+  pub more : List ℕ
+  pub is : walk.suffix ≡ encode (waiting to body) ++ more
+  pub good : fine (waiting to body) ≡ true
+  pub long : len ≡ length body
+
+-- what the search for a receiver's first record answers: its place and length, or none
+abbrev pub Found : List ℕ → ℕ → Option (ℕ × ℕ) → Type 0
+Found bs to None = Ended bs to
+Found bs to (Some r) = Reached bs to r.0 r.1
+
+-- the first record for a receiver, by what it means: its datagram is the first that waits for the receiver, and once its bytes are cut out all others wait as before
+pub record First (bs : List ℕ) (to at : ℕ) (b : List ℕ) : Type 0 where
+  pub ready : first_for to (decode bs) ≡ Some b
+  pub room : at + (4 + length b) ≤ length bs
+  pub leaves : decode (take at bs ++ drop (at + (4 + length b)) bs) ≡ without to (decode bs)

@@ -1,15 +1,15 @@
 -- What a queue means. Assumes nothing.
-use Rattle.std.specs.Prelude.{◌≡◌, ℕ, ◌+◌, Bool, true, false, cond, List, [], ◌∷◌, ◌++◌, length, take, Some, None, Ok, Err, Option, Result, nat_le}
+use Rattle.std.specs.Prelude.{◌≡◌, ℕ, ◌+◌, true, false, cond, List, [], ◌∷◌, ◌++◌, length, take, Some, None, Ok, Err, Option, Result, nat_le}
 use Rattle.channel.specs.declared.memory.Unfit.{Unfit}
 use Rattle.channel.specs.Meaning.{Waiting, lendable, waiting}
 use Rattle.queue.specs.declared.queue.Queue.{Queue}
 use Rattle.queue.specs.Packed.{decode, cost, first_for, without}
 
--- the bytes in use: all of its memory, if `used` says more
+-- the bytes in use
 abbrev pub used_bytes : Queue → List ℕ
 used_bytes q = take q.used q.buf.now
 
--- the datagrams that wait, in the order of their puts: what the used bytes say, whatever they are
+-- the datagrams that wait, in the order of their puts: what the used bytes say
 abbrev pub queued : Queue → List Waiting
 queued q = decode (used_bytes q)
 
@@ -31,11 +31,6 @@ QueuePuts q to b r = (queued r ≡ queued q ++ (waiting to b ∷ [])) × (size r
 -- all others wait as before
 abbrev pub QueueTakes : Queue → ℕ → Queue → Type 0
 QueueTakes q to r = (queued r ≡ without to (queued q)) × (size r ≡ size q)
-
--- what an attempt to append leaves, by whether it did
-abbrev pub Appended : Queue → ℕ → List ℕ → Queue → Bool → Type 0
-Appended q to b r true = QueuePuts q to b r
-Appended q to b r false = r ≡ q
 
 -- what memory makes: a queue in it where nothing waits, or none, and then it is as it was
 abbrev pub Made : List ℕ → Result Queue Unfit → Type 0

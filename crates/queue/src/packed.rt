@@ -1,5 +1,5 @@
 // Records of datagrams, packed one after the other in a slice of bytes.
-ghost use Rattle.std.specs.Prelude.{◌≡◌, ◌+◌, ◌-◌, ◌≤◌, ◌++◌, length, take, drop};
+ghost use Rattle.std.specs.Prelude.{◌≡◌, ◌+◌, ◌-◌, ◌≤◌, ◌++◌, length, take, drop, MatchOption};
 ghost use Rattle.channel.specs.Meaning.{waiting};
 ghost use Rattle.queue.specs.Packed.{Found, encode, lead};
 
@@ -9,57 +9,54 @@ use wire::write::LONGEST;
 // The bytes of a record before its datagram: the receiver, the length in two bytes, the low one first, and a 0.
 pub(crate) const HEAD: usize = 4;
 
-// The length of the datagram whose record stands at a place, or 0 where none does.
-fn length_at(buf: &[u8], at: usize) -> usize
-    requires { at ≤ length buf.now }
-    ensures { result ≡ lead (drop at buf.now) }
+// The length of the datagram whose record stands at the front, if one does.
+#[tactic(auto, unfolding(crate::specs::Packed::lead))]
+fn length_in(bytes: &[u8]) -> Option<usize>
+    ensures lead { result ≡ lead bytes.now }
+    ensures fits { MatchOption result (Unit {0}) (λ n. 4 + n ≤ length bytes.now) }
 {
-    let room = buf.len() - at;
-    if room < HEAD {
-        return 0;
-    }
-    let len = buf[at + 1] as usize + 256 * buf[at + 2] as usize;
-    if buf[at] < RECEIVERS && buf[at + 3] == 0 && len <= LONGEST && HEAD + len <= room {
-        len
-    } else {
-        0
-    }
+    let [to, low, high, zero, rest @ ..] = bytes else {
+        return None;
+    };
+    let len = u16::from_le_bytes([*low, *high]) as usize;
+    let fits = (1..=LONGEST).contains(&len) && len <= rest.len();
+    (*to < RECEIVERS && *zero == 0 && fits).then_some(len)
 }
 
-// The place and the length of the first record for a receiver; where there is none, the end of the records and 0.
-pub(crate) fn find(buf: &[u8], receiver: u8) -> (usize, usize)
-    ensures { Found buf.now receiver result.0 result.1 }
+// The first record for a receiver: its place, and its datagram's length. Each record says where the next begins, so that no
+// iterator of the library goes over them: the walk is a loop, and yields what it found by `break`.
+#[tactic(auto, using(crate::proofs::Walks::walk_start, crate::proofs::Walks::walk_next, crate::proofs::Walks::walk_found))]
+pub(crate) fn find(buf: &[u8], receiver: u8) -> Option<(usize, usize)>
+    ensures { Found buf.now receiver result }
 {
     let mut at = 0;
     'walk: loop {
-        let len = length_at(buf, at);
-        if len == 0 {
-            break 'walk (at, 0);
-        }
+        let len = length_in(&buf[at..])?;
         if buf[at] == receiver {
-            break 'walk (at, len);
+            break 'walk Some((at, len));
         }
         at += HEAD + len;
     }
 }
 
-// Writes a record at a place.
-pub(crate) fn store(buf: &mut [u8], at: usize, receiver: u8, bytes: &[u8])
-    requires room { at + (4 + length bytes.now) ≤ length buf.old }
+// Writes a record at the front.
+#[tactic(auto, unfolding(crate::specs::Packed::encode))]
+pub(crate) fn store(buf: &mut [u8], receiver: u8, bytes: &[u8])
+    requires room { 4 + length bytes.now ≤ length buf.old }
     requires short { length bytes.now ≤ 10252 }
-    ensures { buf.new ≡ take at buf.old ++ (encode (waiting receiver bytes.now) ++ drop (at + (4 + length bytes.now)) buf.old) }
+    ensures { buf.new ≡ encode (waiting receiver bytes.now) ++ drop (4 + length bytes.now) buf.old }
 {
-    let len = bytes.len();
-    let head = [receiver, (len % 256) as u8, (len / 256) as u8, 0];
-    buf[at..at + HEAD].copy_from_slice(&head);
-    buf[at + HEAD..at + HEAD + len].copy_from_slice(bytes);
+    let [low, high] = (bytes.len() as u16).to_le_bytes();
+    let (head, rest) = buf.split_at_mut(HEAD);
+    head.copy_from_slice(&[receiver, low, high, 0]);
+    rest[..bytes.len()].copy_from_slice(bytes);
 }
 
-// Closes a gap: what follows it up to `end` moves down.
-pub(crate) fn close(buf: &mut [u8], at: usize, gap: usize, end: usize)
-    requires inside { at + gap ≤ end }
-    requires within { end ≤ length buf.old }
-    ensures { take (end - gap) buf.new ≡ take at buf.old ++ drop (at + gap) (take end buf.old) }
+// Closes a gap: what follows it moves down.
+#[tactic(auto, using(crate::proofs::Walks::moved))]
+pub(crate) fn close(buf: &mut [u8], at: usize, gap: usize)
+    requires inside { at + gap ≤ length buf.old }
+    ensures { take (length buf.old - gap) buf.new ≡ take at buf.old ++ drop (at + gap) buf.old }
 {
-    buf.copy_within(at + gap..end, at);
+    buf.copy_within(at + gap.., at);
 }

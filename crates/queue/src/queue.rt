@@ -1,119 +1,96 @@
 // Datagrams that wait in the order of their puts, in memory that the caller lends.
-ghost use Rattle.std.specs.Prelude.{◌≡◌, ◌+◌, ◌<◌, ◌≤◌, [], ◌++◌, length, take, drop, nat_le};
-ghost use Rattle.channel.specs.Faults.{numbered};
-ghost use Rattle.channel.specs.Meaning.{TakeLeaves, copied, fetched};
-ghost use Rattle.queue.specs.Laws.{queue_laws};
-ghost use Rattle.queue.specs.Packed.{Found, cost};
-ghost use Rattle.queue.specs.Queue.{Appended, Made, QueuePuts, QueueTakes, queue_denies, queue_ready, queued, size, used_bytes};
+ghost use Rattle.std.specs.Prelude.{◌≡◌, ◌≤◌, length, take};
+ghost use Rattle.queue.specs.Packed.{cost, decode};
 
 use crate::packed::{HEAD, close, find, store};
-use channel::channel::{Channel, RECEIVERS, admit};
+use channel::channel::{Channel, admit, hand_over, known};
 use channel::fault::ChannelFault;
-use channel::memory::{Unfit, is_lendable};
+use channel::memory::{Unfit, fit};
 
-// No record is for it, so a search for it ends behind the last record.
-const NOBODY: u8 = 255;
-
-// The datagrams stand as records, packed from the front in the first `used` bytes. A record is its receiver (1 byte),
-// the length of its datagram (2 bytes, the low one first), a 0, and the datagram. Any bytes have a meaning: the records
-// end where no proper one stands. So nothing has to be known of the bytes beforehand.
+// The datagrams stand as records, packed from the front: they take just the first `used` bytes. A record is its receiver
+// (1 byte), the length of its datagram (2 bytes, the low one first), a 0, and the datagram.
+// The memory is the caller's, so the count of bytes in use stands beside the slice, where a `Vec` would keep its own.
 #[derive(Drop)]
 pub struct Queue<'a> {
     buf: &'a mut [u8],
     used: usize,
-}
-
-// A queue with no record.
-fn empty<'a>(buf: &'a mut [u8]) -> Queue<'a>
-    ensures empty { queued result ≡ [] }
-    ensures size { size result ≡ length buf.old }
-{
-    Queue { buf, used: 0 }
+    ghost within: { used ≤ length buf.now },
+    ghost packed: { cost (decode (take used buf.now)) ≡ used },
 }
 
 impl<'a> Queue<'a> {
+    ghost use Rattle.std.specs.Prelude.{◌≡◌, ◌+◌, ◌<◌, ◌≤◌, [], length, Some, None};
+    ghost use Rattle.channel.specs.Faults.{numbered};
+    ghost use Rattle.channel.specs.Meaning.{PutLeaves, TakeLeaves, copied, denied, fetched};
+    ghost use Rattle.queue.specs.Packed.{First};
+    ghost use Rattle.queue.specs.Queue.{Made, QueuePuts, QueueTakes, queue_denies, queue_ready, queued, size, used_bytes};
+
     // An empty queue in 128 to 65,536 bytes; other memory is given back as it was.
     pub fn new(memory: &'a mut [u8]) -> Result<Queue<'a>, Unfit<'a>>
         ensures { Made memory.old result }
     {
-        if !is_lendable(memory.len()) {
-            return Err(Unfit { memory });
-        }
-        Ok(empty(memory))
+        Ok(Queue::empty(fit(memory)?))
     }
 
-    // The end of the used bytes, within the memory whatever `used` says.
-    fn end(&self) -> usize
-        ensures within { result ≤ size self.now }
-        ensures used { take result self.now.buf.now ≡ used_bytes self.now }
+    // A queue with no record.
+    #[tactic(auto, using(crate::proofs::Packing::decode_nil, crate::proofs::Packing::cost_nil))]
+    fn empty(buf: &'a mut [u8]) -> Queue<'a>
+        ensures empty { queued result ≡ [] }
+        ensures size { size result ≡ length buf.old }
     {
-        self.used.min(self.buf.len())
+        Queue { buf, used: 0 }
     }
 
-    // The place and the length of the first record for a receiver; where there is none, the end of the records and 0.
-    fn search(&self, receiver: u8) -> (usize, usize)
-        ensures { Found (used_bytes self.now) receiver result.0 result.1 }
+    // The first record for a receiver: its place, and its datagram.
+    #[tactic(auto, using(crate::proofs::Queued::none_ready, crate::proofs::Queued::first_is, crate::proofs::Queued::reached_room))]
+    fn ready(&self, receiver: u8) -> Option<(usize, &[u8])>
+        ensures { elim result [ None ↦ queue_ready self.now receiver ≡ None | Some r ↦ First (used_bytes self.now) receiver r.0 r.1.now ] }
     {
-        find(&self.buf[..self.end()], receiver)
-    }
-
-    // Copies bytes from a place to the front of a buffer.
-    fn read(&self, at: usize, len: usize, out: &mut [u8])
-        requires held { at + len ≤ size self.now }
-        requires room { len ≤ length out.old }
-        ensures { out.new ≡ take len (drop at self.now.buf.now) ++ drop len out.old }
-    {
-        out[..len].copy_from_slice(&self.buf[at..at + len]);
-    }
-
-    // Removes some of the used bytes: those behind them move down.
-    fn remove(&mut self, at: usize, gap: usize)
-        requires { at + gap ≤ length (used_bytes self.old) }
-        ensures size { size self.new ≡ size self.old }
-        ensures left { used_bytes self.new ≡ take at (used_bytes self.old) ++ drop (at + gap) (used_bytes self.old) }
-    {
-        let end = self.end();
-        close(self.buf, at, gap, end);
-        self.used = end - gap;
+        let records = &self.buf[..self.used];
+        let (at, len) = find(records, receiver)?;
+        let from = at + HEAD;
+        Some((at, &records[from..from + len]))
     }
 
     // Stores a datagram behind the last record, unless the free bytes are too few.
-    fn append(&mut self, receiver: u8, bytes: &[u8]) -> bool
+    #[tactic(auto, using(crate::proofs::Queued::stored_decodes, crate::proofs::Queued::stored_cost))]
+    fn append(&mut self, receiver: u8, bytes: &[u8]) -> Result<(), ChannelFault>
         requires known { receiver < 8 }
         requires some { 1 ≤ length bytes.now }
         requires short { length bytes.now ≤ 10252 }
-        ensures answer { result ≡ nat_le (cost (queued self.old) + (4 + length bytes.now)) (size self.old) }
-        ensures after { Appended self.old receiver bytes.now self.new result }
+        ensures answer { numbered result ≡ denied (queue_denies self.old receiver bytes.now) }
+        ensures after { PutLeaves QueuePuts self.old receiver bytes.now self.new result }
     {
-        let (at, _) = self.search(NOBODY);
-        if self.buf.len() - at < HEAD + bytes.len() {
-            return false;
+        let len = HEAD + bytes.len();
+        if self.buf.len() - self.used < len {
+            return Err(ChannelFault::Space);
         }
-        store(self.buf, at, receiver, bytes);
-        self.used = at + HEAD + bytes.len();
-        true
+        store(&mut self.buf[self.used..], receiver, bytes);
+        self.used += len;
+        Ok(())
     }
 
     // Copies the first datagram for a receiver to the front of a buffer, and removes its record.
+    #[tactic(auto, using(crate::proofs::Queued::closed, crate::proofs::Queued::closed_cost))]
     fn fetch(&mut self, receiver: u8, out: &mut [u8]) -> Result<Option<usize>, ChannelFault>
         ensures answer { numbered result ≡ fetched (length out.old) (queue_ready self.old receiver) }
         ensures after { TakeLeaves QueueTakes self.old receiver self.new result }
         ensures out { out.new ≡ copied result (queue_ready self.old receiver) out.old }
     {
-        let (at, len) = self.search(receiver);
-        if len == 0 {
+        let Some((at, datagram)) = self.ready(receiver) else {
             return Ok(None);
-        }
-        if out.len() < len {
-            return Err(ChannelFault::Room);
-        }
-        self.read(at + HEAD, len, out);
-        self.remove(at, HEAD + len);
+        };
+        let len = hand_over(datagram, out)?;
+        close(&mut self.buf[..self.used], at, HEAD + len);
+        self.used -= HEAD + len;
         Ok(Some(len))
     }
 }
 
 impl<'a> Channel for Queue<'a> {
+    ghost use Rattle.queue.specs.Laws.{queue_laws};
+    ghost use Rattle.queue.specs.Queue.{QueuePuts, QueueTakes, queue_denies, queue_ready, queued};
+
     ghost waits = { queued };
 
     ghost ready = { queue_ready };
@@ -128,16 +105,11 @@ impl<'a> Channel for Queue<'a> {
 
     fn put(&mut self, receiver: u8, bytes: &[u8]) -> Result<(), ChannelFault> {
         admit(receiver, bytes.len())?;
-        if !self.append(receiver, bytes) {
-            return Err(ChannelFault::Space);
-        }
-        Ok(())
+        self.append(receiver, bytes)
     }
 
     fn take(&mut self, receiver: u8, out: &mut [u8]) -> Result<Option<usize>, ChannelFault> {
-        if receiver >= RECEIVERS {
-            return Err(ChannelFault::Receiver);
-        }
+        known(receiver)?;
         self.fetch(receiver, out)
     }
 }

@@ -1,5 +1,5 @@
 -- A queue of 128 bytes in which given datagrams wait, and its puts and takes. Assumes nothing.
-use Rattle.std.proofs.Common.{◌≡◌, ℕ, ◌+◌, ◌-◌, Bool, true, false, cond, leb, List, [], ◌∷◌, ◌++◌, length, replicate, Some, None, Ok, Option, Result, sym, ap, ◌∙◌, subst, ap₂, arith, length-append, take_at, leb-true}
+use Rattle.std.proofs.Common.{◌≡◌, ℕ, ◌+◌, ◌-◌, Bool, true, false, cond, leb, List, [], ◌∷◌, ◌++◌, length, take, replicate, Some, None, Ok, Option, Result, sym, refl, ap, ◌∙◌, subst, ap₂, arith, length-append, take_at, leb-true}
 use mathlib.Core.List.Memᴰ
 use mathlib.Core.List.{Memᴰ}
 use lib.ListN.{length-replicate}
@@ -7,29 +7,56 @@ use Rattle.channel.specs.Meaning.{Waiting, waiting, admits, then_own, take_answe
 use Rattle.queue.specs.Packed.{encodes, decode, cost, first_for, without, all_fine}
 use Rattle.queue.specs.Queue.{queued, size, queue_denies, queue_ready}
 use Rattle.queue.specs.declared.queue.Queue.{Queue}
-use Rattle.queue.proofs.Heads.{both}
-use Rattle.queue.proofs.Packing.{decode_encodes, length_encodes}
+use Rattle.queue.proofs.Packing.{both, cost_nil, decode_encodes, length_encodes}
 use Rattle.history.specs.Lines.{Puts, Takes, Waited}
 use Rattle.reached.specs.Run.{queue_line}
 
 -- the records of the datagrams, and zeros
-unfoldable pub holding : List Waiting → Queue
-holding ws = record { buf = record { ref_ptr = (0, 0); ghost_name = 0; now = encodes ws ++ replicate (128 - cost ws) 0 }; used = cost ws }
+abbrev bytes : List Waiting → List ℕ
+bytes ws = encodes ws ++ replicate (128 - cost ws) 0
 
--- they have their place in it
+-- they have their place in 128 bytes
 abbrev pub fit : List Waiting → Bool
 fit ws = cond (all_fine ws) (leb (cost ws) 128) false
 
-pub queued_holding : (ws : List Waiting) → fit ws ≡ true → queued (holding ws) ≡ ws
-unfolding holding
-queued_holding ws f =
-    ap decode (take_at (encodes ws) (replicate (128 - cost ws) 0) (cost ws) (length_encodes ws)) ∙ decode_encodes ws (both (all_fine ws) (leb (cost ws) 128) f).0
+module _ (ws : List Waiting) where
+  read_back : fit ws ≡ true → decode (take (cost ws) (bytes ws)) ≡ ws
+  read_back f =
+      ap decode (take_at (encodes ws) (replicate (128 - cost ws) 0) (cost ws) (length_encodes ws)) ∙ decode_encodes ws (both (all_fine ws) (leb (cost ws) 128) f).0
 
-pub size_holding : (ws : List Waiting) → fit ws ≡ true → size (holding ws) ≡ 128
-unfolding holding
-size_holding ws f =
-    let r = leb-true (cost ws) 128 (both (all_fine ws) (leb (cost ws) 128) f).1 in
-    omega (arith, length-append (encodes ws) (replicate (128 - cost ws) 0), length_encodes ws, length-replicate {A = ℕ} (128 - cost ws) 0)
+  long : fit ws ≡ true → length (bytes ws) ≡ 128
+  long f =
+      let r = leb-true (cost ws) 128 (both (all_fine ws) (leb (cost ws) 128) f).1 in
+      omega (arith, length-append (encodes ws) (replicate (128 - cost ws) 0), length_encodes ws, length-replicate {A = ℕ} (128 - cost ws) 0)
+
+  -- the queue of them; of what has no place, an empty one
+  queue_of : (t : Bool) → fit ws ≡ t → Queue
+  queue_of true f = record {
+    buf = record { ref_ptr = (0, 0); ghost_name = 0; now = bytes ws };
+    used = cost ws;
+    within = omega (arith, length-append (encodes ws) (replicate (128 - cost ws) 0), length_encodes ws);
+    packed = ap cost (read_back f);
+  }
+  queue_of false f = record { buf = record { ref_ptr = (0, 0); ghost_name = 0; now = [] }; used = 0; within = omega arith; packed = cost_nil }
+
+  pub holding : Queue
+  holding = queue_of (fit ws) refl
+
+  pub queued_holding : fit ws ≡ true → queued holding ≡ ws
+  unfolding holding queue_of
+  queued_holding f = go (fit ws) refl f
+    where
+      go : (t : Bool) (e : fit ws ≡ t) → t ≡ true → queued (queue_of t e) ≡ ws
+      go true e h = read_back e
+      go false e h = cc
+
+  pub size_holding : fit ws ≡ true → size holding ≡ 128
+  unfolding holding queue_of
+  size_holding f = go (fit ws) refl f
+    where
+      go : (t : Bool) (e : fit ws ≡ t) → t ≡ true → size (queue_of t e) ≡ 128
+      go true e h = long e
+      go false e h = cc
 
 module _ (ws : List Waiting) (f : fit ws ≡ true) where
   -- a put leaves the datagram behind the others

@@ -1,4 +1,5 @@
 // A datagram put together by hand, as a support engineer would to mend one site.
+use crate::carry::OUT;
 use crate::hex::Hex;
 use crate::site::{Site, Stock};
 use lattice::kind::Kind;
@@ -10,14 +11,7 @@ use wire::read::read;
 // Adds articles 50 and 51 to a site by a draft; a part that does not rise is refused on the way.
 pub fn mend(rt: &HostRuntime, site: &mut Site) -> anyhow::Result<()> {
     let mut buf = [0u8; 32];
-    let mut draft = Draft::begin::<Stock>(
-        Header {
-            from: 0,
-            to: 1,
-            number: 2,
-        },
-        &mut buf,
-    )?;
+    let mut draft = Draft::begin::<Stock>(Header { number: 2, ..OUT }, &mut buf)?;
     draft.add::<Stock>(&mut buf, Part { slot: 58, level: 1 })?;
     if let Err(fault) = draft.add::<Stock>(&mut buf, Part { slot: 58, level: 1 }) {
         let number = fault.number();

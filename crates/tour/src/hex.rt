@@ -1,7 +1,7 @@
 // Bytes as a person reads them.
 use std::fmt;
 
-// Shows bytes as pairs of hexadecimal digits.
+// Shows bytes as pairs of hexadecimal digits: by hand, so that nothing is put on the heap.
 #[derive(Drop)]
 pub struct Hex<'a>(pub &'a [u8]);
 

@@ -6,8 +6,9 @@ mod carry;
 mod hex;
 mod site;
 
+use arrayvec::ArrayVec;
 use by_hand::mend;
-use carry::{Carried, bring_level};
+use carry::bring_level;
 use hex::Hex;
 use lattice::kind::Kind;
 use lattice::show::Shown;
@@ -64,10 +65,10 @@ fn meet(rt: &HostRuntime, north: &mut Site, south: &mut Site) -> anyhow::Result<
     let from_north = count_parts(&north.stock)?;
     let from_south = count_parts(&south.stock)?;
     let (sent, heard) = bring_level(&mut north.stock, &mut south.stock, &mut out, &mut back)?;
-    lacked(rt, "South", "North", &sent, from_north)?;
-    went(rt, &out, sent.len)?;
-    lacked(rt, "North", "South", &heard, from_south)?;
-    went(rt, &back, heard.len)?;
+    lacked(rt, south.name, north.name, &sent.value, from_north)?;
+    went(rt, sent.bytes)?;
+    lacked(rt, north.name, south.name, &heard.value, from_south)?;
+    went(rt, heard.bytes)?;
     north.show(rt)?;
     south.show(rt)?;
     let word = if equal(&north.stock, &south.stock) {
@@ -83,24 +84,26 @@ fn lacked<K: Kind>(
     rt: &HostRuntime,
     to: &str,
     from: &str,
-    carried: &Carried<K>,
+    lacking: &K,
     whole: u16,
 ) -> anyhow::Result<()> {
-    let sent = count_parts(&carried.value)?;
+    let sent = count_parts(lacking)?;
     println!(rt;
         "   {to} lacks {sent} of {from}'s {whole} parts: {}",
-        Shown(&carried.value)
+        Shown(lacking)
     )?;
     Ok(())
 }
 
 // Shows a datagram, and what comes of a copy of it that was damaged on the way.
-fn went(rt: &HostRuntime, buf: &[u8; LONGEST], len: usize) -> anyhow::Result<()> {
-    let len = len.min(LONGEST);
-    println!(rt; "      {len} bytes: {}", Hex(&buf[0..len]))?;
-    let mut copy = *buf;
-    copy[2] ^= 4;
-    if let Err(fault) = read::<Stock>(&copy[0..len]) {
+fn went(rt: &HostRuntime, bytes: &[u8]) -> anyhow::Result<()> {
+    let len = bytes.len();
+    println!(rt; "      {len} bytes: {}", Hex(bytes))?;
+    let mut copy = ArrayVec::<u8, LONGEST>::try_from(bytes)?;
+    if let Some(byte) = copy.get_mut(2) {
+        *byte ^= 4;
+    }
+    if let Err(fault) = read::<Stock>(copy.as_slice()) {
         let number = fault.number();
         println!(rt; "      a copy with one bit turned: refused by {number}, {fault}")?;
     }

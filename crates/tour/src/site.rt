@@ -25,35 +25,25 @@ impl Site {
         }
     }
 
-    // Crates are counted on the left of the pair: place 0, verb 1.
+    // Crates are counted on the left of the pair, at place 0.
     pub fn receive(&mut self, rt: &HostRuntime, crates: u32) -> io::Result<()> {
-        let name = self.name;
-        print!(rt; "   {name} receives {crates} crates")?;
-        self.act(
-            rt,
-            Act {
-                place: 0,
-                verb: 1,
-                amount: crates,
-            },
-        )
+        print!(rt; "   {} receives {crates} crates", self.name)?;
+        self.add(rt, 0, crates)
     }
 
-    // Articles are shelved on the right: place 1, verb 1.
+    // Articles are shelved on the right, at place 1.
     pub fn shelve(&mut self, rt: &HostRuntime, article: u32) -> io::Result<()> {
-        let name = self.name;
-        print!(rt; "   {name} shelves article {article}")?;
-        self.act(
-            rt,
-            Act {
-                place: 1,
-                verb: 1,
-                amount: article,
-            },
-        )
+        print!(rt; "   {} shelves article {article}", self.name)?;
+        self.add(rt, 1, article)
     }
 
-    fn act(&mut self, rt: &HostRuntime, act: Act) -> io::Result<()> {
+    // Acts by verb 1, which adds at both places.
+    fn add(&mut self, rt: &HostRuntime, place: u16, amount: u32) -> io::Result<()> {
+        let act = Act {
+            place,
+            verb: 1,
+            amount,
+        };
         match self.stock.effect(self.replica, act) {
             Err(fault) => {
                 let number = fault.number();
@@ -72,11 +62,11 @@ impl Site {
     }
 
     pub fn show(&self, rt: &HostRuntime) -> io::Result<()> {
-        let name = self.name;
-        let crates = self.stock.left.total();
-        let articles = self.stock.right.count();
         println!(rt;
-            "   {name} holds {crates} crates and {articles} articles: {}",
+            "   {} holds {} crates and {} articles: {}",
+            self.name,
+            self.stock.left.total(),
+            self.stock.right.count(),
             Shown(&self.stock)
         )
     }

@@ -1,10 +1,12 @@
 -- What adding a part answers. Assumes nothing.
-use Rattle.std.proofs.Common.{◌≡◌, ℕ, ◌+◌, ◌-◌, ◌*◌, ◌≤◌, Bool, List, length, take, drop, Some, Option, ap, ◌∙◌, arith}
+use Rattle.std.proofs.Common.{◌≡◌, ℕ, ◌+◌, ◌-◌, ◌*◌, ◌≤◌, Bool, List, length, take, drop, Some, Option, ap, subst, ◌∙◌, arith}
 use native.Mathlib.Nat.{sub-zero}
 use Rattle.std.proofs.lemmas.List.{length-take-le, drop-take}
 use Rattle.lattice.specs.Ops.{Ops, parts}
 use Rattle.wire.specs.Bytes.{le}
-use Rattle.wire.specs.Datagrams.{head, list_bytes, delta_bytes, listing, reading}
+use Rattle.std.specs.Prelude.{IfSome}
+use Rattle.wire.specs.Datagrams.{head, list_bytes, delta_bytes, listing, parts_in, reading}
+use Rattle.wire.specs.declared.datagram.Header.{Header}
 use Rattle.wire.specs.Drafts.{of_delta, so_far, follows_on, takes}
 use Rattle.wire.specs.declared.draft.Draft.{Draft}
 use Rattle.wire.proofs.Over.{length_delta_bytes}
@@ -15,11 +17,6 @@ pub front_is : (b : List ℕ) (n : ℕ) → take (n - 0) b ≡ take n b
 front_is b n = ap (λ (k : ℕ). take k b) (sub-zero n)
 
 module _ {K : Type 0} (o : Ops K) (d : Draft) (b : List ℕ) where
-  -- what adding answers, from the delta that the buffer opens with
-  pub takes_is : (s l : ℕ) (f : List ℕ) (v : K) (t : Bool) → f ≡ take (12 + 10 * d.count) b → Some v ≡ of_delta o d.header (reading o f)
-      → t ≡ follows_on o (parts o v) s l → t ≡ takes o (so_far o d b) s l
-  takes_is s l f v t e n h = h ∙ ap (λ (x : Option K). takes o x s l) (n ∙ ap (λ (c : List ℕ). of_delta o d.header (reading o c)) e)
-
   -- the parts that stand in the buffer
   pub standing : (f : List ℕ) (v : K) → o.width ≤ 1024 → 22 + 10 * d.count ≤ length b → f ≡ take (12 + 10 * d.count) b → delta_bytes d.header (parts o v) ≡ f
       → (d.count ≡ length (parts o v)) × (d.count ≤ 1024) × (list_bytes (parts o v) ≡ take (10 * d.count) (drop 12 b))
@@ -33,3 +30,8 @@ module _ {K : Type 0} (o : Ops K) (d : Draft) (b : List ℕ) where
   -- so they are few
   pub few : (v : K) → o.width ≤ 1024 → 22 + 10 * d.count ≤ length b → delta_bytes d.header (parts o v) ≡ take ((12 + 10 * d.count) - 0) b → d.count ≤ 1024
   few v w r x = (standing (take ((12 + 10 * d.count) - 0) b) v w r (front_is b (12 + 10 * d.count)) x).1
+
+-- what is known of the delta that an option holds
+pub written_is : {K : Type 0} (o : Ops K) (h : Header) (f : List ℕ) (v : K) (r : Option K) → r ≡ Some v
+    → IfSome r (λ w. (delta_bytes h (parts o w) ≡ f) × (parts o w ≡ parts_in f)) → (delta_bytes h (parts o v) ≡ f) × (parts o v ≡ parts_in f)
+written_is o h f v r e w = subst (λ x. IfSome x (λ y. (delta_bytes h (parts o y) ≡ f) × (parts o y ≡ parts_in f))) e w

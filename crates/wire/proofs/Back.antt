@@ -1,20 +1,19 @@
 -- What is written reads back. Assumes nothing.
-use Rattle.std.proofs.Common.{◌≡◌, ℕ, zero, suc, ◌+◌, ◌-◌, ◌*◌, ◌/◌, ◌%◌, ◌<◌, ◌≤◌, true, eqb, ltb, leb, List, [], ◌∷◌, ◌++◌, length, take, drop, Ok, sym, refl, ap, ◌∙◌, subst, arith}
+use Rattle.std.proofs.Common.{◌≡◌, ℕ, zero, suc, ◌+◌, ◌*◌, ◌/◌, ◌%◌, ◌<◌, ◌≤◌, true, eqb, ltb, leb, List, [], ◌∷◌, ◌++◌, length, take, drop, Ok, sym, refl, ap, ◌∙◌, subst, arith}
 use Rattle.std.specs.List.{AllByRecursion as All}
 use Rattle.std.proofs.lemmas.Bool.{le-ltb, le-leb, eq-eqb, and_from, cond-true, cond-false}
 use Rattle.std.proofs.lemmas.List.{append-nil, take_at}
 use Rattle.lattice.specs.Laws.{Laws, Usable}
 use Rattle.lattice.specs.Ops.{Ops, parts_at, parts, joined}
+use Rattle.lattice.specs.Walks.{parts_from}
 use Rattle.lattice.specs.declared.part.Part.{Part}
-use Rattle.lattice.proofs.Parts.{parts_all}
 use Rattle.wire.specs.Bytes.{le, value, field, placed}
 use Rattle.wire.specs.Datagrams.{delta_length, head, part_bytes, list_bytes, delta_bytes, listing, ack_bytes, header_in, listed, parts_in, same, ranged, content, with_value, opened, reading, written, ReadsBack}
 use Rattle.wire.specs.declared.datagram.Datagram.TheVariants.{Delta as delta, Ack as ack}
 use Rattle.wire.specs.declared.datagram.Header.{Header}
 use Rattle.wire.proofs.Little.{value_le}
 use Rattle.wire.proofs.Over.{length_delta_bytes, length_head}
-use Rattle.lattice.proofs.Parts.{below_length}
-use Rattle.wire.proofs.Lists.{from, ahead, ahead_start}
+use Rattle.lattice.proofs.Parts.{below_length, from_all, parts_all}
 use Rattle.wire.proofs.Good.{opening_delta, opening_ack, content_good}
 
 abbrev Small : Part → Type 0
@@ -48,13 +47,13 @@ unfolding head le value field
 count_reads h len s n t k = (omega arith, refl)
 
 module _ {K : Type 0} (o : Ops K) (L : Laws o) where
-  ranged_from : (x : K) (n s m : ℕ) → m ≤ s → ranged o m (from o x s n) ≡ true
-  unfolding ranged from parts_at
+  ranged_from : (x : K) (n s m : ℕ) → m ≤ s → ranged o m (parts_from o x s n) ≡ true
+  unfolding ranged parts_from parts_at
   ranged_from x zero s m h = refl
-  ranged_from x (suc n) s m h = go (o.level x s) refl (λ k q. ranged_from x n (s + 1) k q)
+  ranged_from x (suc n) s m h = go (o.level x s) refl (λ k q. ranged_from x n (suc s) k q)
     where
-      go : (l : ℕ) → o.level x s ≡ l → ((k : ℕ) → k ≤ s + 1 → ranged o k (from o x (s + 1) n) ≡ true)
-          → ranged o m (parts_at o s l ++ from o x (s + 1) n) ≡ true
+      go : (l : ℕ) → o.level x s ≡ l → ((k : ℕ) → k ≤ suc s → ranged o k (parts_from o x (suc s) n) ≡ true)
+          → ranged o m (parts_at o s l ++ parts_from o x (suc s) n) ≡ true
       go zero e r = r m (omega arith)
       go (suc l) e r =
           and_from (leb m s) _ (le-leb m s h)
@@ -63,8 +62,7 @@ module _ {K : Type 0} (o : Ops K) (L : Laws o) where
           (r (suc s) (omega arith)))
 
   pub ranged_parts : (x : K) → ranged o 0 (parts o x) ≡ true
-  unfolding ahead
-  ranged_parts x = ap (ranged o 0) (ahead_start o x) ∙ ranged_from x (o.width - 0) 0 0 (omega arith)
+  ranged_parts x = ap (ranged o 0) (sym (from_all o x o.width)) ∙ ranged_from x o.width 0 0 (omega arith)
 
   small_parts : o.width ≤ 1024 → (x : K) → All Small (parts o x)
   small_parts w x =

@@ -1,20 +1,19 @@
 -- A part that may follow those of a value: the parts of the join are those and that part. Assumes nothing.
 use Rattle.std.proofs.Common.{◌≡◌, ℕ, zero, suc, ◌+◌, ◌-◌, ◌<◌, ◌≤◌, Bool, true, false, ltb, ◌⊎◌, List, [], ◌∷◌, ◌++◌, sym, refl, ap, ◌∙◌, subst, inl, inr, ⊎_elim, arith}
-use Rattle.std.specs.List.{AllByRecursion as All}
+use Rattle.std.specs.List.{list_all, AllByRecursion as All}
 use Rattle.std.proofs.lemmas.List.{append-nil}
 use Rattle.std.proofs.lemmas.Bool.{ltb-true, and_parts, both_ways, not-true, cases_lt, cases_eq}
 use Rattle.lattice.specs.Laws.{Laws}
 use Rattle.lattice.specs.Ops.{Ops, parts_at, parts_below, parts, joined}
 use Rattle.lattice.specs.declared.part.Part.{Part}
 use Rattle.lattice.proofs.Parts.{parts_each, joined_push, part_under, part_not_bottom}
-use Rattle.wire.specs.Drafts.{every, follows_on}
+use Rattle.wire.specs.Drafts.{follows_on}
 use Rattle.wire.proofs.Parting.{low, follows_is, clear_value}
 use Rattle.lattice.proofs.Parts.{below_none, below_one}
 
-every_all : (f : Part → Bool) (ps : List Part) → every f ps ≡ true → All (λ p. f p ≡ true) ps
-unfolding every
-every_all f [] h = tt
-every_all f (p ∷ ps) h = let u = and_parts (f p) (every f ps) h in (u.0, every_all f ps u.1)
+list_all_all : (f : Part → Bool) (ps : List Part) → list_all f ps ≡ true → All (λ p. f p ≡ true) ps
+list_all_all f [] h = tt
+list_all_all f (p ∷ ps) h = let u = and_parts (f p) (list_all f ps) h in (u.0, list_all_all f ps u.1)
 
 module _ {K : Type 0} (o : Ops K) (L : Laws o) where
   -- a part under a value is under a part of it
@@ -159,8 +158,8 @@ module _ {K : Type 0} (o : Ops K) (L : Laws o) where
   pub follows_grows : (v : K) (s l : ℕ) → follows_on o (parts o v) s l ≡ true → parts o (o.join v (o.part s l)) ≡ parts o v ++ record { slot = s; level = l } ∷ []
   follows_grows v s l h =
       let p = and_parts (o.admits s l) _ (sym (follows_is o (parts o v) s l) ∙ h) in
-      let q = and_parts (every (low o s l) (parts o v)) _ p.1 in
-      let each = parts_each o (λ r. low o s l r ≡ true) v o.width (every_all (low o s l) (parts o v) q.0) in
+      let q = and_parts (list_all (low o s l) (parts o v)) _ p.1 in
+      let each = parts_each o (λ r. low o s l r ≡ true) v o.width (list_all_all (low o s l) (parts o v) q.0) in
       grown_parts v s l p.0
       (λ u g.
       let k = and_parts (ltb u s) _ (each u (L.levels.admits_slot u (o.level v u) (L.levels.admitted v u g)) g) in

@@ -2,6 +2,7 @@ pub mod Little
 pub mod Over
 pub mod Lists
 pub mod Turns
+pub mod Same
 pub mod Good
 pub mod Back
 pub mod Once

@@ -1,7 +1,8 @@
 -- Numbers as bytes and back. Assumes nothing.
-use Rattle.std.proofs.Common.{◌≡◌, ℕ, zero, suc, ◌+◌, ◌-◌, ◌*◌, ◌/◌, ◌%◌, ◌^◌, ◌<◌, ◌≤◌, List, [], ◌∷◌, ◌++◌, length, get_or, take, drop, refl, ap, ◌∙◌, add-zero, arith}
+use Rattle.std.proofs.Common.{◌≡◌, ℕ, zero, suc, ◌+◌, ◌-◌, ◌*◌, ◌/◌, ◌%◌, ◌^◌, ◌<◌, ◌≤◌, List, [], ◌∷◌, ◌++◌, length, get_or, take, drop, sym, refl, ap, ◌∙◌, arith, w16, w32, w64}
+use Rattle.std.specs.Int.{from_le_bytes}
 use borrow.Rule.Slice.PartMut.{put_mid}
-use Rattle.std.proofs.lemmas.List.{get_or-drop, length-drop, drop-drop}
+use Rattle.std.proofs.lemmas.List.{length-drop, length-take-le, drop-drop}
 use Rattle.std.specs.List.{AllByRecursion as All}
 use Rattle.wire.specs.Bytes.{le, value, field, over}
 
@@ -10,44 +11,27 @@ abbrev digits : (ℕ → ℕ) → ℕ → ℕ
 digits f zero = 0
 digits f (suc w) = f 0 + 256 * digits (λ k. f (suc k)) w
 
-value_digits : (w : ℕ) (xs : List ℕ) → w ≤ length xs → value (take w xs) ≡ digits (λ k. get_or xs k 0) w
+value_digits : (xs : List ℕ) → value xs ≡ digits (λ k. get_or xs k 0) (length xs)
 unfolding value
-value_digits zero xs h = refl
-value_digits (suc w) [] h = absurd (omega arith)
-value_digits (suc w) (x ∷ xs) h = ap (λ (n : ℕ). x + 256 * n) (value_digits w xs (omega arith))
+value_digits [] = refl
+value_digits (x ∷ xs) = ap (λ (n : ℕ). x + 256 * n) (value_digits xs)
 
-first_drop : (b : List ℕ) (at : ℕ) → get_or (drop at b) 0 0 ≡ get_or b at 0
-first_drop b at = get_or-drop at b 0 0 ∙ ap (λ (n : ℕ). get_or b n 0) (add-zero at)
+-- a number read from its bytes, by its width
+module _ (b : List ℕ) (at w : ℕ) (xs : List ℕ) (room : at + w ≤ length b) (read : xs ≡ take w (drop at b)) where
+  field_digits : digits (λ k. get_or xs k 0) w ≡ field b at w
+  unfolding field
+  field_digits =
+      let n : length xs ≡ w = ap length read ∙ length-take-le w (drop at b) (simp length-drop (omega arith)) in
+      ap (digits (λ k. get_or xs k 0)) (sym n) ∙ sym (value_digits xs) ∙ ap value read
 
-room : (w : ℕ) (b : List ℕ) (at : ℕ) → at + w ≤ length b → w ≤ length (drop at b)
-room w b at h = simp length-drop (omega arith)
+pub field_2 : (b : List ℕ) (at : ℕ) (xs : List ℕ) → at + 2 ≤ length b → xs ≡ take 2 (drop at b) → from_le_bytes w16 xs ≡ field b at 2
+field_2 b at xs h e = omega (arith, field_digits b at 2 xs h e)
 
-pub field_2 : (b : List ℕ) (at : ℕ) → at + 2 ≤ length b → get_or b at 0 + get_or b (at + 1) 0 * 256 ≡ field b at 2
-unfolding field
-field_2 b at h = omega (arith, value_digits 2 (drop at b) (room 2 b at h), first_drop b at, get_or-drop at b 1 0)
+pub field_4 : (b : List ℕ) (at : ℕ) (xs : List ℕ) → at + 4 ≤ length b → xs ≡ take 4 (drop at b) → from_le_bytes w32 xs ≡ field b at 4
+field_4 b at xs h e = omega (arith, field_digits b at 4 xs h e)
 
-pub field_4 : (b : List ℕ) (at : ℕ) → at + 4 ≤ length b
-    → get_or b at 0 + get_or b (at + 1) 0 * 256 + get_or b (at + 2) 0 * 65536 + get_or b (at + 3) 0 * 16777216 ≡ field b at 4
-unfolding field
-field_4 b at h = omega (arith, value_digits 4 (drop at b) (room 4 b at h), first_drop b at, get_or-drop at b 1 0, get_or-drop at b 2 0, get_or-drop at b 3 0)
-
-pub field_8 : (b : List ℕ) (at : ℕ) → at + 8 ≤ length b
-    → get_or b at 0 + get_or b (at + 1) 0 * 256 + get_or b (at + 2) 0 * 65536 + get_or b (at + 3) 0 * 16777216 + get_or b (at + 4) 0 * 4294967296
-    + get_or b (at + 5) 0 * 1099511627776 + get_or b (at + 6) 0 * 281474976710656 + get_or b (at + 7) 0 * 72057594037927936 ≡ field b at 8
-unfolding field
-field_8 b at h =
-    omega (
-      arith,
-      value_digits 8 (drop at b) (room 8 b at h),
-      first_drop b at,
-      get_or-drop at b 1 0,
-      get_or-drop at b 2 0,
-      get_or-drop at b 3 0,
-      get_or-drop at b 4 0,
-      get_or-drop at b 5 0,
-      get_or-drop at b 6 0,
-      get_or-drop at b 7 0,
-    )
+pub field_8 : (b : List ℕ) (at : ℕ) (xs : List ℕ) → at + 8 ≤ length b → xs ≡ take 8 (drop at b) → from_le_bytes w64 xs ≡ field b at 8
+field_8 b at xs h e = omega (arith, field_digits b at 8 xs h e)
 
 pub length_le : (w n : ℕ) → length (le w n) ≡ w
 unfolding le

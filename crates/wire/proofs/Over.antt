@@ -1,5 +1,5 @@
 -- Writes to a buffer, one after another. Assumes nothing.
-use Rattle.std.proofs.Common.{◌≡◌, ℕ, ◌+◌, ◌*◌, ◌/◌, ◌%◌, ◌≤◌, List, [], ◌∷◌, ◌++◌, length, take, drop, sym, refl, ap, ◌∙◌, add-zero, zero-add, arith}
+use Rattle.std.proofs.Common.{◌≡◌, ℕ, ◌+◌, ◌*◌, ◌≤◌, List, [], ◌∷◌, ◌++◌, length, take, drop, sym, refl, ap, ◌∙◌, add-zero, zero-add, arith}
 use Rattle.std.proofs.lemmas.List.{length_push, append-nil, append_assoc, length-append, length-take-le, length-drop, take-append-drop, take_at, drop_at, drop-drop}
 use Rattle.lattice.specs.declared.part.Part.{Part}
 use Rattle.wire.specs.Bytes.{le, over, placed}
@@ -95,20 +95,18 @@ part_written b0 b b' ps qs n s l xs r en eb ex e eq =
     ∙ over_more b0 12 (list_bytes ps) (part_bytes s l) (12 + 10 * n) r (omega (arith, length_list_bytes ps))
     ∙ ap (over b0 12) (sym (list_bytes_push ps s l) ∙ ap list_bytes (sym eq))
 
-pub delta_put : (b0 b1 b2 b3 H C : List ℕ) (h : Header) (ps : List Part) (n : ℕ) → 12 ≤ length b0 → n ≡ length ps → b1 ≡ over b0 12 (list_bytes ps)
-    → H ≡ head (12 + 10 * n) 1 h → b2 ≡ over b1 0 H → C ≡ n % 256 ∷ n / 256 % 256 ∷ [] → b3 ≡ over b2 10 C → b3 ≡ placed (delta_bytes h ps) b0
-unfolding le
-delta_put b0 b1 b2 b3 H C h ps n r en e1 eh e2 ec e3 =
-    e3
-    ∙ ap (over b2 10) (ec ∙ ap (le 2) en)
-    ∙ ap (λ (b : List ℕ). over b 10 (le 2 (length ps)))
-    (e2 ∙ ap (over b1 0) (eh ∙ ap (λ (m : ℕ). head (12 + 10 * m) 1 h) en) ∙ ap (λ (b : List ℕ). over b 0 (head (12 + 10 * length ps) 1 h)) e1)
+-- the header and the count, put before the parts
+pub delta_put : (b0 b1 b2 : List ℕ) (h : Header) (ps : List Part) (n : ℕ) → 12 ≤ length b0 → n ≡ length ps → b1 ≡ over b0 12 (list_bytes ps)
+    → b2 ≡ over (over b1 0 (head (12 + 10 * n) 1 h)) 10 (le 2 n) → b2 ≡ placed (delta_bytes h ps) b0
+delta_put b0 b1 b2 h ps n r en e1 e2 =
+    e2
+    ∙ ap (λ (m : ℕ). over (over b1 0 (head (12 + 10 * m) 1 h)) 10 (le 2 m)) en
+    ∙ ap (λ (b : List ℕ). over (over b 0 (head (12 + 10 * length ps) 1 h)) 10 (le 2 (length ps))) e1
     ∙ delta_written b0 h ps r
 
-pub begin_put : (b0 b2 b3 H C : List ℕ) (h : Header) → 12 ≤ length b0 → H ≡ head 12 1 h → b2 ≡ over b0 0 H → C ≡ 0 ∷ 0 ∷ [] → b3 ≡ over b2 10 C
-    → b3 ≡ placed (delta_bytes h []) b0
+pub begin_put : (b0 b2 : List ℕ) (h : Header) → 12 ≤ length b0 → b2 ≡ over (over b0 0 (head 12 1 h)) 10 (le 2 0) → b2 ≡ placed (delta_bytes h []) b0
 unfolding list_bytes
-begin_put b0 b2 b3 H C h r eh e2 ec e3 = delta_put b0 b0 b2 b3 H C h [] 0 r refl (over_none b0 12) eh e2 ec e3
+begin_put b0 b2 h r e = delta_put b0 b0 b2 h [] 0 r refl (over_none b0 12) e
 
 over_same : (b : List ℕ) (at w : ℕ) (xs : List ℕ) → at + w ≤ length b → xs ≡ take w (drop at b) → over b at xs ≡ b
 unfolding over
@@ -121,12 +119,12 @@ over_same b at w xs r e =
     ∙ take-append-drop at b
 
 -- a part is put after those that stand there
-pub add_put : (b0 b1 b2 b3 P H C : List ℕ) (h : Header) (ps : List Part) (n s l : ℕ) → 22 + 10 * n ≤ length b0 → n ≡ length ps
+pub add_put : (b0 b1 b2 P : List ℕ) (h : Header) (ps : List Part) (n s l : ℕ) → 22 + 10 * n ≤ length b0 → n ≡ length ps
     → list_bytes ps ≡ take (10 * n) (drop 12 b0) → P ≡ part_bytes s l → b1 ≡ over b0 (12 + 10 * n) P
-    → H ≡ head (12 + 10 * (n + 1)) 1 h → b2 ≡ over b1 0 H → C ≡ (n + 1) % 256 ∷ (n + 1) / 256 % 256 ∷ [] → b3 ≡ over b2 10 C
-    → b3 ≡ placed (delta_bytes h (ps ++ record { slot = s; level = l } ∷ [])) b0
-add_put b0 b1 b2 b3 P H C h ps n s l r en el ep e1 eh e2 ec e3 =
+    → b2 ≡ over (over b1 0 (head (12 + 10 * (n + 1)) 1 h)) 10 (le 2 (n + 1))
+    → b2 ≡ placed (delta_bytes h (ps ++ record { slot = s; level = l } ∷ [])) b0
+add_put b0 b1 b2 P h ps n s l r en el ep e1 e2 =
     let qs = ps ++ record { slot = s; level = l } ∷ [] in
-    delta_put b0 b1 b2 b3 H C h qs (n + 1) (omega arith) (ap (λ (k : ℕ). k + 1) en ∙ sym (length_push ps (record { slot = s; level = l })))
+    delta_put b0 b1 b2 h qs (n + 1) (omega arith) (ap (λ (k : ℕ). k + 1) en ∙ sym (length_push ps (record { slot = s; level = l })))
     (part_written b0 b0 b1 ps qs n s l P (omega arith) en (sym (over_same b0 12 (10 * n) (list_bytes ps) (omega arith) el)) ep e1 refl)
-    eh e2 ec e3
+    e2

@@ -1,5 +1,6 @@
 -- Drafts: which parts may be added, and what the buffer then holds. Assumes nothing.
 use Rattle.std.specs.Prelude.{◌≡◌, ℕ, ◌+◌, ◌*◌, ◌<◌, ◌≤◌, Bool, true, false, cond, not, ◌&&◌, List, [], ◌∷◌, ◌++◌, length, take, Some, None, Ok, Err, Option, Result, ◌==◌, nat_lt}
+use Rattle.std.specs.List.{list_all}
 use Rattle.lattice.specs.Laws.{Usable}
 use Rattle.lattice.specs.Ops.{Ops, parts, walked}
 use Rattle.lattice.specs.declared.part.Part.{Part}
@@ -13,11 +14,6 @@ use Rattle.wire.specs.declared.datagram.Sort.TheVariants.{Delta, Ack}
 use Rattle.wire.specs.declared.draft.Draft.{Draft}
 use Rattle.wire.specs.declared.draft.Sealed.{Sealed}
 
--- whether a test passes at each part
-unfoldable pub every : (Part → Bool) → List Part → Bool
-every f [] = true
-every f (p ∷ ps) = f p && every f ps
-
 abbrev pub same_header : Header → Header → Bool
 same_header g h = g.from == h.from && (g.to == h.to && g.number == h.number)
 
@@ -28,7 +24,7 @@ module _ {K : Type 0} (o : Ops K) where
 
   -- whether a part may come after those given
   unfoldable pub follows_on : List Part → ℕ → ℕ → Bool
-  follows_on ps s l = o.admits s l && every (before s l) ps
+  follows_on ps s l = o.admits s l && list_all (before s l) ps
 
   abbrev pub of_datagram : Header → Datagram K → Option K
   of_datagram h (delta g v) = cond (same_header g h) (Some v) None

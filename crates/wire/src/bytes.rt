@@ -1,38 +1,43 @@
-// Numbers as little-endian bytes at a place. Each function asks for room that its callers have seen to.
-ghost use Rattle.std.specs.Prelude.{◌≡◌, ◌+◌, ◌<◌, ◌≤◌, length};
-ghost use Rattle.wire.specs.Bytes.{over, field};
+// Numbers as little-endian bytes at a place. Each function asks for room that its callers have seen to: a reader with a
+// place of its own would ask for the same at every step.
+ghost use Rattle.std.specs.Prelude.{◌≡◌, ◌+◌, ◌*◌, ◌<◌, ◌≤◌, drop, length, take};
+ghost use Rattle.wire.specs.Bytes.{over, field, le};
 ghost use Rattle.wire.specs.Datagrams.{head, part_bytes};
+ghost use Rattle.wire.specs.Sorts.{code};
 
-use crate::datagram::Header;
+use crate::datagram::{Header, Sort};
+use lattice::part::Part;
 
-pub(crate) fn get16(b: &[u8], at: usize) -> u16
+// The N bytes at a place.
+fn bytes_at<const N: usize>(b: &[u8], at: usize) -> [u8; N]
+    requires { at + N ≤ length b.now }
+    ensures { result ≡ take N (drop at b.now) }
+{
+    let mut bytes = [0; N];
+    bytes.copy_from_slice(&b[at..at + N]);
+    bytes
+}
+
+// One function for each width, since the `from_le_bytes` of `std` is of no trait.
+pub(crate) fn u16_at(b: &[u8], at: usize) -> u16
     requires { at + 2 ≤ length b.now }
     ensures { result ≡ field b.now at 2 }
 {
-    u16::from_le_bytes([b[at], b[at + 1]])
+    u16::from_le_bytes(bytes_at(b, at))
 }
 
-pub(crate) fn get32(b: &[u8], at: usize) -> u32
+pub(crate) fn u32_at(b: &[u8], at: usize) -> u32
     requires { at + 4 ≤ length b.now }
     ensures { result ≡ field b.now at 4 }
 {
-    u32::from_le_bytes([b[at], b[at + 1], b[at + 2], b[at + 3]])
+    u32::from_le_bytes(bytes_at(b, at))
 }
 
-pub(crate) fn get64(b: &[u8], at: usize) -> u64
+pub(crate) fn u64_at(b: &[u8], at: usize) -> u64
     requires { at + 8 ≤ length b.now }
     ensures { result ≡ field b.now at 8 }
 {
-    u64::from_le_bytes([
-        b[at],
-        b[at + 1],
-        b[at + 2],
-        b[at + 3],
-        b[at + 4],
-        b[at + 5],
-        b[at + 6],
-        b[at + 7],
-    ])
+    u64::from_le_bytes(bytes_at(b, at))
 }
 
 // Writes bytes at a place.
@@ -44,21 +49,14 @@ pub(crate) fn put(buf: &mut [u8], at: usize, bytes: &[u8])
     buf[at..end].copy_from_slice(bytes);
 }
 
-// The number itself, with what its type says of it: the prover does not look into a record's fields.
-fn bounded(number: u32) -> u32
-    ensures same { result ≡ number }
-    ensures fits { number < 4294967296 }
-{
-    number
-}
-
-pub(crate) fn head_bytes(len: u16, sort: u16, header: Header) -> [u8; 10]
-    ensures bytes { result ≡ head len sort header }
+// The bytes of a header; and that its number fits, which callers' proofs ask for.
+pub(crate) fn head_bytes(len: u16, sort: Sort, header: Header) -> [u8; 10]
+    ensures bytes { result ≡ head len (code sort) header }
     ensures fits { header.number < 4294967296 }
 {
     let a = len.to_le_bytes();
-    let b = sort.to_le_bytes();
-    let n = bounded(header.number).to_le_bytes();
+    let b = sort.code().to_le_bytes();
+    let n = header.number.to_le_bytes();
     [
         a[0],
         a[1],
@@ -73,10 +71,21 @@ pub(crate) fn head_bytes(len: u16, sort: u16, header: Header) -> [u8; 10]
     ]
 }
 
-pub(crate) fn part_bytes(slot: u16, level: u64) -> [u8; 10]
-    ensures { result ≡ part_bytes slot level }
+pub(crate) fn part_bytes(part: Part) -> [u8; 10]
+    ensures { result ≡ part_bytes part.slot part.level }
 {
-    let s = slot.to_le_bytes();
-    let l = level.to_le_bytes();
+    let s = part.slot.to_le_bytes();
+    let l = part.level.to_le_bytes();
     [s[0], s[1], l[0], l[1], l[2], l[3], l[4], l[5], l[6], l[7]]
+}
+
+// Writes the header and the count of a delta to the front of a buffer.
+pub(crate) fn put_head(buf: &mut [u8], header: Header, count: u16)
+    requires room { 12 ≤ length buf.old }
+    requires short { 12 + 10 * count < 65536 }
+    ensures buffer { buf.new ≡ over (over buf.old 0 (head (12 + 10 * count) 1 header)) 10 (le 2 count) }
+    ensures fits { header.number < 4294967296 }
+{
+    put(buf, 0, &head_bytes(12 + 10 * count, Sort::Delta, header));
+    put(buf, 10, &count.to_le_bytes());
 }

@@ -1,63 +1,41 @@
 // Why the wire declines.
 ghost use Rattle.std.specs.Prelude.{◌≡◌, Ok};
 ghost use Rattle.lattice.specs.Ops.{walked};
-ghost use Rattle.wire.specs.Faults.{number, numbered};
+ghost use Rattle.wire.specs.Faults.{granted, number};
 
 use lattice::kind::Kind;
-use lattice::walks::walkable;
-use std::error::Error;
-use std::fmt;
+use lattice::narrow::Narrow;
+use thiserror::Error;
 
-#[derive(Clone, Copy, PartialEq, Eq, Debug)]
+// Each has the number by which support knows it, and what to tell a person, of which no contract speaks.
+#[derive(Clone, Copy, PartialEq, Eq, Debug, Error)]
 pub enum WireFault {
-    // The kind has more than 1,024 slots.
-    Wide,
-    // The buffer has no place for the datagram.
-    Room,
+    #[error("the kind has more than 1,024 slots")]
+    Wide = 3,
+    #[error("the buffer has no place for the datagram")]
+    Room = 11,
     // Under 10 bytes, or the length field differs from the bytes given.
-    Length,
-    // The sort is neither a delta's nor an acknowledgement's.
-    Sort,
-    // What follows the header does not fit.
-    Body,
+    #[error("the length field is not the number of bytes")]
+    Length = 13,
+    // Neither a delta's nor an acknowledgement's.
+    #[error("the sort is unknown")]
+    Sort = 14,
+    #[error("what follows the header does not fit")]
+    Body = 16,
 }
 
 impl WireFault {
-    // The refusal's number, as support knows it.
+    // A `From` for each enum of faults would say the same in more lines.
     pub fn number(self) -> u8
         ensures { result ≡ number self }
     {
-        match self {
-            WireFault::Wide => 3,
-            WireFault::Room => 11,
-            WireFault::Length => 13,
-            WireFault::Sort => 14,
-            WireFault::Body => 16,
-        }
+        self as u8
     }
 }
-
-// What to tell a person. No contract speaks of the words.
-impl fmt::Display for WireFault {
-    fn fmt<W: fmt::Write>(&self, f: &mut fmt::Formatter<W>) -> fmt::Result {
-        f.write_str(match self {
-            WireFault::Wide => "the kind has more than 1,024 slots",
-            WireFault::Room => "the buffer has no place for the datagram",
-            WireFault::Length => "the length field is not the number of bytes",
-            WireFault::Sort => "the sort is unknown",
-            WireFault::Body => "what follows the header does not fit",
-        })
-    }
-}
-
-impl Error for WireFault {}
 
 // Refuses a kind whose slots are too many to be walked.
-pub(crate) fn check_width<K: Kind>() -> Result<(), WireFault>
-    ensures { numbered result ≡ walked K.ops (Ok tt) }
+pub(crate) fn check_width<K: Kind>() -> Result<Narrow<K>, WireFault>
+    ensures { granted result ≡ walked K.ops (Ok tt) }
 {
-    match walkable::<K>() {
-        Ok(()) => Ok(()),
-        Err(_) => Err(WireFault::Wide),
-    }
+    Narrow::check().map_err(|_| WireFault::Wide)
 }

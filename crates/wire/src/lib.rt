@@ -5,6 +5,7 @@ mod bytes;
 pub mod datagram;
 pub mod draft;
 pub mod fault;
+mod listed;
 pub mod read;
 pub mod theorems;
 pub mod write;

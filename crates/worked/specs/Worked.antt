@@ -4,12 +4,11 @@ use Rattle.lattice.specs.Ops.{Ops, difference, joined}
 use Rattle.lattice.specs.declared.part.Act.{Act}
 use Rattle.lattice.specs.declared.part.Part.{Part}
 use Rattle.kinds.specs.Counters.{counter_ops}
-use Rattle.kinds.specs.Fours.{four_ops}
+use Rattle.kinds.specs.Fours.{Four, four_ops}
 use Rattle.kinds.specs.Pairs.{pair_ops}
 use Rattle.kinds.specs.Sets.{set_ops}
 use Rattle.kinds.specs.TwoPhases.{added, present, removed, two_phase_ops}
 use Rattle.kinds.specs.declared.counter.Counter.{Counter}
-use Rattle.kinds.specs.declared.four.Four.{Four}
 use Rattle.kinds.specs.declared.pair.Pair.{Pair}
 use Rattle.kinds.specs.declared.set.Set.{Set}
 use Rattle.wire.specs.Datagrams.{written}

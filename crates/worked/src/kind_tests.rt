@@ -13,40 +13,29 @@ use std::test::Fail;
 // The value of the parts given, as slot and level.
 fn value<K: Kind>(parts: &[(u16, u64)]) -> K {
     let mut value = K::bottom();
-    for (slot, level) in parts {
-        value.join_part(Part {
-            slot: *slot,
-            level: *level,
-        });
+    for &(slot, level) in parts {
+        value.join_part(Part { slot, level });
     }
     value
 }
 
-// The number by which an act of replica `actor` is refused, or 0.
-fn refusal<K: Kind>(held: &K, actor: u8, place: u16, verb: u8, amount: u32) -> u8 {
-    match held.effect(
-        actor,
-        Act {
-            place,
-            verb,
-            amount,
-        },
-    ) {
-        Ok(_) => 0,
-        Err(fault) => fault.number(),
+fn act(place: u16, verb: u8, amount: u32) -> Act {
+    Act {
+        place,
+        verb,
+        amount,
     }
+}
+
+// The number by which an act of replica `actor` is refused, if it is.
+fn refusal<K: Kind>(held: &K, actor: u8, place: u16, verb: u8, amount: u32) -> Option<u8> {
+    let effect = held.effect(actor, act(place, verb, amount));
+    effect.err().map(|fault| fault.number())
 }
 
 // Replica 1 counts five more, and the copy of replica 0 learns of it.
 fn count(here: &mut Counter, there: &mut Counter) -> Result<(), KindFault> {
-    let added = here.effect(
-        1,
-        Act {
-            place: 0,
-            verb: 1,
-            amount: 5,
-        },
-    )?;
+    let added = here.effect(1, act(0, 1, 5))?;
     here.join(&added);
     let lacked = difference(here, there)?;
     there.join(&lacked);
@@ -76,23 +65,9 @@ fn counters_differ_by_the_larger_levels(rt: HostRuntime) -> Result<(), Fail> {
 #[test]
 fn pair_sends_odd_places_right(rt: HostRuntime) -> Result<(), Fail> {
     let held = Pair::<Counter, Set>::bottom();
-    let effect = held.effect(
-        0,
-        Act {
-            place: 1,
-            verb: 1,
-            amount: 4,
-        },
-    )?;
+    let effect = held.effect(0, act(1, 1, 4))?;
     assert!(rt; equal(&effect, &value::<Pair<Counter, Set>>(&[(12, 1)])));
-    let effect = held.effect(
-        7,
-        Act {
-            place: 0,
-            verb: 1,
-            amount: 4,
-        },
-    )?;
+    let effect = held.effect(7, act(0, 1, 4))?;
     assert!(rt; equal(&effect, &value::<Pair<Counter, Set>>(&[(7, 4)])));
     Ok(())
 }
@@ -108,14 +83,7 @@ fn removed_stays_absent(rt: HostRuntime) {
 
 #[test]
 fn four_ends_at_slot_1023(rt: HostRuntime) -> Result<(), Fail> {
-    let effect = Four::<Set>::bottom().effect(
-        0,
-        Act {
-            place: 3,
-            verb: 1,
-            amount: 255,
-        },
-    )?;
+    let effect = Four::<Set>::bottom().effect(0, act(3, 1, 255))?;
     assert!(rt; equal(&effect, &value::<Four<Set>>(&[(1023, 1)])));
     let set = effect.get(3).ok_or("key 3")?;
     assert!(rt; set.contains(255));
@@ -127,57 +95,43 @@ fn four_ends_at_slot_1023(rt: HostRuntime) -> Result<(), Fail> {
 #[test]
 fn counter_takes_the_last_count(rt: HostRuntime) -> Result<(), Fail> {
     let mut held = value::<Counter>(&[(0, 4_294_967_294)]);
-    let effect = held.effect(
-        0,
-        Act {
-            place: 0,
-            verb: 1,
-            amount: 1,
-        },
-    )?;
+    let effect = held.effect(0, act(0, 1, 1))?;
     held.join(&effect);
     assert!(rt; equal(&held, &value::<Counter>(&[(0, 4_294_967_295)])));
-    assert_eq!(rt; refusal(&held, 0, 0, 1, 1), 9);
-    assert_eq!(rt; refusal(&held, 1, 0, 1, 1), 0);
+    assert_eq!(rt; refusal(&held, 0, 0, 1, 1), Some(9));
+    assert_eq!(rt; refusal(&held, 1, 0, 1, 1), None);
     Ok(())
 }
 
 #[test]
 fn lowest_refusal_comes_first(rt: HostRuntime) {
     let full = value::<Counter>(&[(0, 4_294_967_295)]);
-    assert_eq!(rt; refusal(&full, 8, 1, 2, 0), 4);
-    assert_eq!(rt; refusal(&full, 0, 1, 2, 0), 5);
-    assert_eq!(rt; refusal(&full, 0, 0, 2, 0), 6);
-    assert_eq!(rt; refusal(&full, 0, 0, 1, 0), 7);
-    assert_eq!(rt; refusal(&full, 0, 0, 1, 1), 9);
+    assert_eq!(rt; refusal(&full, 8, 1, 2, 0), Some(4));
+    assert_eq!(rt; refusal(&full, 0, 1, 2, 0), Some(5));
+    assert_eq!(rt; refusal(&full, 0, 0, 2, 0), Some(6));
+    assert_eq!(rt; refusal(&full, 0, 0, 1, 0), Some(7));
+    assert_eq!(rt; refusal(&full, 0, 0, 1, 1), Some(9));
     let set = Set::bottom();
-    assert_eq!(rt; refusal(&set, 8, 1, 2, 256), 4);
-    assert_eq!(rt; refusal(&set, 0, 1, 2, 256), 5);
-    assert_eq!(rt; refusal(&set, 0, 0, 2, 256), 6);
-    assert_eq!(rt; refusal(&set, 0, 0, 1, 256), 7);
+    assert_eq!(rt; refusal(&set, 8, 1, 2, 256), Some(4));
+    assert_eq!(rt; refusal(&set, 0, 1, 2, 256), Some(5));
+    assert_eq!(rt; refusal(&set, 0, 0, 2, 256), Some(6));
+    assert_eq!(rt; refusal(&set, 0, 0, 1, 256), Some(7));
 }
 
 #[test]
 fn two_phase_set_bars_and_allows(rt: HostRuntime) -> Result<(), Fail> {
     let mut held = value::<TwoPhase>(&[(1, 1), (256 + 2, 1)]);
-    assert_eq!(rt; refusal(&held, 8, 1, 3, 256), 4);
-    assert_eq!(rt; refusal(&held, 0, 1, 3, 256), 5);
-    assert_eq!(rt; refusal(&held, 0, 0, 3, 256), 6);
-    assert_eq!(rt; refusal(&held, 0, 0, 2, 256), 7);
-    assert_eq!(rt; refusal(&held, 0, 0, 1, 2), 8);
-    assert_eq!(rt; refusal(&held, 0, 0, 2, 3), 8);
-    assert_eq!(rt; refusal(&held, 0, 0, 1, 3), 0);
-    let gone = held.effect(
-        0,
-        Act {
-            place: 0,
-            verb: 2,
-            amount: 1,
-        },
-    )?;
+    assert_eq!(rt; refusal(&held, 8, 1, 3, 256), Some(4));
+    assert_eq!(rt; refusal(&held, 0, 1, 3, 256), Some(5));
+    assert_eq!(rt; refusal(&held, 0, 0, 3, 256), Some(6));
+    assert_eq!(rt; refusal(&held, 0, 0, 2, 256), Some(7));
+    assert_eq!(rt; refusal(&held, 0, 0, 1, 2), Some(8));
+    assert_eq!(rt; refusal(&held, 0, 0, 2, 3), Some(8));
+    assert_eq!(rt; refusal(&held, 0, 0, 1, 3), None);
+    let gone = held.effect(0, act(0, 2, 1))?;
     held.join(&gone);
     assert!(rt; !held.contains(1));
-    assert_eq!(rt; refusal(&held, 0, 0, 2, 1), 8);
+    assert_eq!(rt; refusal(&held, 0, 0, 2, 1), Some(8));
     Ok(())
 }
 
@@ -185,22 +139,15 @@ fn two_phase_set_bars_and_allows(rt: HostRuntime) -> Result<(), Fail> {
 #[test]
 fn places_lead_down_and_no_further(rt: HostRuntime) -> Result<(), Fail> {
     let held = Four::<Pair<Counter, Counter>>::bottom();
-    let effect = held.effect(
-        2,
-        Act {
-            place: 1 + 4 * 1,
-            verb: 1,
-            amount: 6,
-        },
-    )?;
+    let effect = held.effect(2, act(1 + 4 * 1, 1, 6))?;
     assert!(rt;
         equal(
             &effect,
             &value::<Four<Pair<Counter, Counter>>>(&[(16 + 8 + 2, 6)]),
         )
     );
-    assert_eq!(rt; refusal(&held, 2, 1 + 4 * 2, 1, 6), 5);
-    assert_eq!(rt; refusal(&held, 8, 1 + 4 * 2, 1, 6), 4);
+    assert_eq!(rt; refusal(&held, 2, 1 + 4 * 2, 1, 6), Some(5));
+    assert_eq!(rt; refusal(&held, 8, 1 + 4 * 2, 1, 6), Some(4));
     Ok(())
 }
 

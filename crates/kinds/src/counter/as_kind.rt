@@ -1,12 +1,11 @@
 // The counter as a kind: replica i counts at slot i, and the larger count wins.
-ghost use Rattle.std.specs.Prelude.{◌≡◌, ◌<◌, ◌≤◌};
+ghost use Rattle.std.specs.Prelude.{◌≡◌, ◌<◌};
 ghost use Rattle.lattice.specs.Simple.{simple_part};
 ghost use Rattle.kinds.specs.Counters.{counter_ops, counter_shape, total};
-ghost use Rattle.kinds.specs.Levels.{sum_below};
 ghost use Rattle.kinds.specs.Counts.{counter_laws};
 
 use super::Counter;
-use crate::leaf::check_leaf;
+use crate::leaf::check_adds;
 use lattice::fault::KindFault;
 use lattice::kind::Kind;
 use lattice::part::{Act, Part};
@@ -16,18 +15,7 @@ impl Counter {
     pub fn total(&self) -> u64
         ensures { result ≡ total self.now }
     {
-        self.total_below(8)
-    }
-
-    fn total_below(&self, slots: usize) -> u64
-        requires { slots ≤ 8 }
-        ensures { result ≡ sum_below (counter_shape.level self.now) slots }
-    {
-        let mut sum = 0;
-        for slot in 0..slots {
-            sum += u64::from(self.levels[slot]);
-        }
-        sum
+        self.levels.iter().map(|&n| u64::from(n)).sum()
     }
 
     fn single(slot: u8, level: u32) -> Counter
@@ -35,7 +23,7 @@ impl Counter {
         ensures { result ≡ simple_part counter_shape slot level }
     {
         let mut levels = [0; 8];
-        levels[slot as usize] = level;
+        levels[usize::from(slot)] = level;
         Counter { levels }
     }
 }
@@ -56,24 +44,20 @@ impl Kind for Counter {
     }
 
     fn level(&self, slot: u16) -> u64 {
-        if slot < 8 {
-            u64::from(self.levels[slot as usize])
-        } else {
-            0
-        }
+        self.levels
+            .get(usize::from(slot))
+            .map_or(0, |&n| u64::from(n))
     }
 
     fn admits(part: Part) -> bool {
-        part.slot < 8 && part.level > 0 && part.level <= 4_294_967_295
+        part.slot < 8 && (1..=u64::from(u32::MAX)).contains(&part.level)
     }
 
     fn under(&self, other: &Self) -> bool {
-        for slot in 0..8 {
-            if self.levels[slot] > other.levels[slot] {
-                return false;
-            }
-        }
-        true
+        self.levels
+            .iter()
+            .zip(&other.levels)
+            .all(|(mine, theirs)| mine <= theirs)
     }
 
     fn covers(&self, part: Part) -> bool {
@@ -81,8 +65,9 @@ impl Kind for Counter {
     }
 
     fn join(&mut self, other: &Self) {
-        for slot in 0..8 {
-            self.levels[slot] = self.levels[slot].max(other.levels[slot]);
+        // By slot: a proof knows nothing of what is written under `iter_mut().zip(..)`.
+        for (slot, mine) in self.levels.iter_mut().enumerate() {
+            *mine = (*mine).max(other.levels[slot]);
         }
     }
 
@@ -90,22 +75,19 @@ impl Kind for Counter {
         if !Self::admits(part) {
             return false;
         }
-        let slot = part.slot as usize;
+        let slot = usize::from(part.slot);
         self.levels[slot] = self.levels[slot].max(part.level as u32);
         true
     }
 
     fn effect(&self, actor: u8, act: Act) -> Result<Self, KindFault> {
-        check_leaf(actor, act.place)?;
-        if act.verb != 1 {
-            return Err(KindFault::Verb);
-        }
+        check_adds(actor, act)?;
         if act.amount == 0 {
             return Err(KindFault::Amount);
         }
-        let Some(level) = self.levels[actor as usize].checked_add(act.amount) else {
-            return Err(KindFault::Overflow);
-        };
+        let level = self.levels[usize::from(actor)]
+            .checked_add(act.amount)
+            .ok_or(KindFault::Overflow)?;
         Ok(Counter::single(actor, level))
     }
 }

@@ -1,19 +1,20 @@
 // The calls on drafts and sealed datagrams.
 ghost use Rattle.std.specs.Prelude.{◌≡◌, ◌+◌, ◌*◌, ◌≤◌, nat_lt, [], length, IfSome, is_ok, if◌then◌else◌, Ok, Err};
-ghost use Rattle.lattice.specs.Laws.{Usable};
 ghost use Rattle.lattice.specs.Ops.{parts, walked};
 ghost use Rattle.wire.specs.Bytes.{placed};
 ghost use Rattle.wire.specs.Datagrams.{delta_bytes, parts_in, reading};
 ghost use Rattle.wire.specs.declared.datagram.Sort.TheVariants.{Delta, Ack};
-ghost use Rattle.wire.specs.Drafts.{adding, checking, follows_on, longer, longer_bytes, of_delta, same_header, sealed_length, so_far, takes};
+ghost use Rattle.wire.specs.Drafts.{adding, checking, follows_on, longer, longer_bytes, of_delta, sealed_length, so_far, takes};
 ghost use Rattle.wire.specs.Faults.{numbered};
 
-use crate::bytes::{head_bytes, part_bytes, put};
+use crate::bytes::{part_bytes, put, put_head};
 use crate::datagram::{Datagram, Header, Sort};
 use crate::draft::{Draft, Sealed};
 use crate::fault::{WireFault, check_width};
+use crate::listed::PART;
 use crate::read::read;
 use lattice::kind::Kind;
+use lattice::narrow::Narrow;
 use lattice::part::Part;
 
 impl Draft {
@@ -36,14 +37,11 @@ impl Draft {
         ensures draft { self.new ≡ (if is_ok result then longer self.old else self.old) }
         ensures buffer { buf.new ≡ (if is_ok result then placed (longer_bytes self.old buf.old part.slot part.level) buf.old else buf.old) }
     {
-        check_width::<K>()?;
-        if buf.len() < 22 + 10 * self.count as usize {
+        let narrow = check_width::<K>()?;
+        if buf.len() < 22 + PART * self.count as usize {
             return Err(WireFault::Room);
         }
-        if !self.grow::<K>(buf, part) {
-            return Err(WireFault::Body);
-        }
-        Ok(())
+        self.grow(&narrow, buf, part)
     }
 
     // The finished datagram.
@@ -57,29 +55,30 @@ impl Draft {
         }
     }
 
-    // Adds a part where there is room, and answers whether it may follow the parts so far.
-    fn grow<K: Kind>(&mut self, buf: &mut [u8], part: Part) -> bool
-        requires narrow { Usable K.ops }
-        requires room { 22 + 10 * self.old.count ≤ length buf.old }
-        ensures answer { result ≡ takes K.ops (so_far K.ops self.old buf.old) part.slot part.level }
-        ensures draft { self.new ≡ (if result then longer self.old else self.old) }
-        ensures buffer { buf.new ≡ (if result then placed (longer_bytes self.old buf.old part.slot part.level) buf.old else buf.old) }
+    // Adds a part where there is room, if it may follow the parts so far.
+    fn grow<K: Kind>(
+        &mut self,
+        narrow: &Narrow<K>,
+        buf: &mut [u8],
+        part: Part,
+    ) -> Result<(), WireFault>
+        requires { 22 + 10 * self.old.count ≤ length buf.old }
+        ensures answer { numbered result ≡ (if takes K.ops (so_far K.ops self.old buf.old) part.slot part.level then Ok tt else Err 16) }
+        ensures draft { self.new ≡ (if is_ok result then longer self.old else self.old) }
+        ensures buffer { buf.new ≡ (if is_ok result then placed (longer_bytes self.old buf.old part.slot part.level) buf.old else buf.old) }
     {
         let count = self.count;
         let header = self.header;
-        let end = 12 + 10 * count as usize;
-        let Some(value) = delta_of::<K>(header, &buf[0..end]) else {
-            return false;
-        };
-        if !may_follow(&value, part) {
-            return false;
+        let end = 12 + PART * count as usize;
+        let value = delta_of::<K>(header, &buf[0..end]).ok_or(WireFault::Body)?;
+        if !may_follow(narrow, &value, part) {
+            return Err(WireFault::Body);
         }
         let more = count + 1;
-        put(buf, end, &part_bytes(part.slot, part.level));
-        put(buf, 0, &head_bytes(12 + 10 * more, 1, header));
-        put(buf, 10, &more.to_le_bytes());
+        put(buf, end, &part_bytes(part));
+        put_head(buf, header, more);
         self.count = more;
-        true
+        Ok(())
     }
 }
 
@@ -100,7 +99,7 @@ impl Sealed {
         ensures { result ≡ sealed_length self.now }
     {
         match self.sort {
-            Sort::Delta => 12 + 10 * self.count as usize,
+            Sort::Delta => 12 + PART * self.count as usize,
             Sort::Ack => 10,
         }
     }
@@ -109,11 +108,8 @@ impl Sealed {
     pub fn check<K: Kind>(&self, bytes: &[u8]) -> Result<(), WireFault>
         ensures { numbered result ≡ checking K.ops self.now bytes.now }
     {
-        let header = match read::<K>(bytes)? {
-            Datagram::Delta(header, _) => header,
-            Datagram::Ack(header) => header,
-        };
-        if !equal_headers(header, self.header) || bytes.len() != self.len() {
+        let header = read::<K>(bytes)?.header();
+        if header != self.header || bytes.len() != self.len() {
             return Err(WireFault::Body);
         }
         Ok(())
@@ -124,14 +120,7 @@ fn put_empty(header: Header, buf: &mut [u8])
     requires { 12 ≤ length buf.old }
     ensures { buf.new ≡ placed (delta_bytes header []) buf.old }
 {
-    put(buf, 0, &head_bytes(12, 1, header));
-    put(buf, 10, &[0, 0]);
-}
-
-fn equal_headers(a: Header, b: Header) -> bool
-    ensures { result ≡ same_header a b }
-{
-    a.from == b.from && a.to == b.to && a.number == b.number
+    put_head(buf, header, 0);
 }
 
 // The value of a delta with the header given.
@@ -139,38 +128,24 @@ fn delta_of<K: Kind>(header: Header, bytes: &[u8]) -> Option<K>
     ensures value { result ≡ of_delta K.ops header (reading K.ops bytes.now) }
     ensures written { IfSome result (λ v. (delta_bytes header (parts K.ops v) ≡ bytes.now) × (parts K.ops v ≡ parts_in bytes.now)) }
 {
-    let Ok(datagram) = read::<K>(bytes) else {
-        return None;
-    };
-    match datagram {
-        Datagram::Ack(_) => None,
-        Datagram::Delta(own, value) => if equal_headers(own, header) {
-            Some(value)
-        } else {
-            None
-        },
+    match read::<K>(bytes) {
+        Ok(Datagram::Delta(own, value)) if own == header => Some(value),
+        _ => None,
     }
 }
 
 // Whether a part may come after the parts of a value: it rises, and is neither under nor above any of them.
-fn may_follow<K: Kind>(value: &K, part: Part) -> bool
-    requires { Usable K.ops }
+fn may_follow<K: Kind>(narrow: &Narrow<K>, value: &K, part: Part) -> bool
     ensures { result ≡ follows_on K.ops (parts K.ops value.now) part.slot part.level }
 {
     let mut alone = K::bottom();
     if !alone.join_part(part) {
         return false;
     }
-    for slot in 0..K::width() as u16 {
-        let level = value.level(slot);
-        if level > 0 {
-            if slot >= part.slot {
-                return false;
-            }
-            if alone.covers(Part { slot, level }) {
-                return false;
-            }
-        }
+    if value.covers(part) {
+        return false;
     }
-    !value.covers(part)
+    narrow
+        .parts(value)
+        .all(|other| other.slot < part.slot && !alone.covers(other))
 }

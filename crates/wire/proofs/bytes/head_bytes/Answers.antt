@@ -3,9 +3,6 @@ use Rattle.wire.specs.Bytes.{le}
 use Rattle.wire.specs.Datagrams.{head}
 use Rattle.wire.proofs.bytes.head_bytes.Goals as goal
 
-pub returns : goal.returns
+pub returns-clause-bytes : goal.returns-clause-bytes
 unfolding head le
-returns c = record {
-  bytes = simp (c.to_le_bytes-a.ensures, c.to_le_bytes-b.ensures, c.to_le_bytes-n.ensures, c.bounded.ensures.same, div-div-eq-div-mul);
-  fits = c.bounded.ensures.fits;
-}
+returns-clause-bytes c = simp (c.to_le_bytes-a.ensures, c.to_le_bytes-b.ensures, c.code.ensures, c.to_le_bytes-n.ensures, div-div-eq-div-mul)

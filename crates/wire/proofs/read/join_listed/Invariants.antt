@@ -1,12 +1,12 @@
-use Rattle.std.proofs.Common.{◌≡◌, drop}
+use Rattle.std.proofs.Common.{◌≡◌}
 use Rattle.lattice.specs.Ops.{joined}
-use Rattle.wire.specs.Datagrams.{listed, ranged}
-use Rattle.wire.proofs.Lists.{rest}
+use Rattle.wire.specs.Datagrams.{ranged}
+use Rattle.wire.specs.Listed.{all_listed, to_come}
 use Rattle.wire.proofs.read.join_listed.Given as goal
 
-abbrev pub invariant-loop-k : goal.invariant-loop-k
-invariant-loop-k g l =
+abbrev pub invariant-loop-part : goal.invariant-loop-part
+invariant-loop-part g l =
     let o = g.K.Kind.ops in
-    let ps = listed l.count (drop 12 l.bytes) in
-    (ranged o 0 ps ≡ ranged o l.least (rest l.bytes l.count l.k)) ×
-    (joined o ps ≡ o.join l.value (joined o (rest l.bytes l.count l.k)))
+    let ps = all_listed l.list in
+    (ranged o 0 ps ≡ ranged o l.least (to_come l.part-iterator))
+    × (joined o ps ≡ o.join l.value (joined o (to_come l.part-iterator)))

@@ -12,11 +12,10 @@ returns g c =
     let h = c.args.header in
     let n = c.write_parts-count.result in
     let long = ap (λ (k : ℕ). 12 + 10 * k) c.write_parts-count.ensures.count in
-    let put = delta_put b c.write_parts-count.new.buf c.put.new.buf c.put-2.new.buf c.head_bytes.result c.to_le_bytes.result h (parts o v) n
-    (omega (arith, c.requires.room)) c.write_parts-count.ensures.count c.write_parts-count.ensures.buffer c.head_bytes.ensures.bytes c.put.ensures
-    c.to_le_bytes.ensures c.put-2.ensures in
+    let put = delta_put b c.write_parts-count.new.buf c.put_head.new.buf h (parts o v) n (omega (arith, c.requires)) c.write_parts-count.ensures.count
+    c.write_parts-count.ensures.buffer c.put_head.ensures.buffer in
     record {
       answer = long;
       buffer = put;
-      back = placed_back o (g.met.K.Kind.lawful c.requires.narrow) c.requires.narrow h v b c.put-2.new.buf (12 + 10 * n) c.head_bytes.ensures.fits long put;
+      back = placed_back o (g.met.K.Kind.lawful c.args.narrow.now.fits) c.args.narrow.now.fits h v b c.put_head.new.buf (12 + 10 * n) c.put_head.ensures.fits long put;
     }

@@ -1,4 +1,4 @@
-use Rattle.lattice.proofs.Simples.{covers_yes, covers_no}
+use Rattle.lattice.proofs.Simples.{covers_yes}
 use Rattle.kinds.specs.Counters.{counter_shape, counter_effect}
 use Rattle.kinds.specs.Counts.{counter_shaped}
 use Rattle.kinds.proofs.counter.as_kind.CounterKind.covers.Goals as goal
@@ -7,8 +7,3 @@ pub returns-then-admits : goal.returns-then-admits
 returns-then-admits c =
     covers_yes counter_shape counter_shaped counter_effect c.args.part.slot c.args.part.level c.level.result c.args.self.now
     c.if-admits.ensures c.level.ensures
-
-pub returns-else-admits : goal.returns-else-admits
-returns-else-admits c =
-    covers_no counter_shape counter_shaped counter_effect c.args.part.slot c.args.part.level c.args.self.now
-    c.admits.result c.admits.ensures c.if-admits.false

@@ -7,4 +7,4 @@ use Rattle.kinds.proofs.counter.as_kind.CounterKind.join.Goals as goal
 pub returns : goal.returns
 returns c =
     join_is counter_shape counter_shaped counter_effect c.args.self.now c.args.other.now _
-    (λ s below. c.loop-slot.invariant.0 s (omega (arith, c.loop-slot-test.false)))
+    (λ s below. c.loop-slot.invariant.joined s (omega (arith, c.loop-slot-test.false)))

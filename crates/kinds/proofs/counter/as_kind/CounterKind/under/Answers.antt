@@ -1,15 +1,17 @@
-use Rattle.std.proofs.Common.{arith}
-use Rattle.lattice.proofs.Simples.{under_false, under_true}
-use Rattle.kinds.specs.Counters.{counter_shape, counter_effect}
-use Rattle.kinds.specs.Counts.{counter_shaped}
+use borrow.Author.Tests.{tests}
+use Rattle.std.proofs.Common.{leb, ◌∙◌, rules, arith}
+use Rattle.std.proofs.lemmas.Iterator.{YieldsList-from_slice, YieldsList-from_zip}
+use Rattle.std.proofs.lemmas.Iterator.Search.{all_from_yields_List}
+use Rattle.kinds.specs.Counters.{counter_shape}
+use Rattle.kinds.proofs.Chains.{all_zipped}
 use Rattle.kinds.proofs.counter.as_kind.CounterKind.under.Goals as goal
-
-pub returns-then-self-slot : goal.returns-then-self-slot
-returns-then-self-slot c =
-    under_false counter_shape counter_shaped counter_effect c.args.self.now c.args.other.now
-    (λ all. omega (arith, all c.loop-slot.slot, c.if-self-slot.true))
 
 pub returns : goal.returns
 returns c =
-    under_true counter_shape counter_shaped counter_effect c.args.self.now c.args.other.now
-    (λ s below. c.loop-slot.invariant s (omega (arith, c.loop-slot-test.false)))
+    let x = c.args.self.now in
+    let y = c.args.other.now in
+    let pairs = YieldsList-from_zip (YieldsList-from_slice {s = c.zip.result.a} x.levels cc) (YieldsList-from_slice {s = c.zip.result.b} y.levels cc) in
+    all_from_yields_List (λ p. leb p.0 p.1) c.all.new.self _ c.all.result c.all.ensures.ran pairs (λ z b q k. search (rules, tests))
+    ∙ all_zipped _ (λ s. leb (counter_shape.level x s) (counter_shape.level y s)) 8 x.levels y.levels
+    (λ h s l. h s (omega (arith, x.ok.0)) (omega (arith, y.ok.0)))
+    (λ h i l k. h i (omega (arith, x.ok.0)))
