@@ -1,7 +1,7 @@
 -- A deliver keeps the invariant. Assumes nothing.
 use Rattle.std.proofs.Common.{◌≡◌, ℕ, suc, ◌-◌, ◌<◌, ◌≤◌, min, max, Bool, true, false, cond, eqb, ltb, leb, ◌≢◌, List, [], ◌∷◌, ◌++◌, length, get_or, take, drop, set, Some, None, Ok, Err, Option, Result, sym, refl, ap, ◌∙◌, subst, inl, inr, ⊎_elim, arith, length-drop, length-set, ltb-true, lt-ltb, eq-eqb, ne_eqb}
 use Rattle.std.proofs.lemmas.Bool.{cond-true, cond_both, cases_lt, and_from, not_from_false}
-use Rattle.lattice.specs.Laws.{Laws, Usable}
+use Rattle.lattice.specs.Laws.{Usable}
 use Rattle.lattice.specs.Ops.{Ops, difference}
 use Rattle.lattice.specs.declared.refusal.Layer.TheVariants.{Replica as of_replica}
 use Rattle.lattice.specs.declared.refusal.Refusal.{Refusal}
@@ -16,7 +16,7 @@ use Rattle.history.specs.Group.{Group, Replica, header, refusal, size, replica, 
 use Rattle.history.specs.Book.{Page, Account, Book, deliver, worth, but, older, marked, with_page, entered, entered_taken, entered_datagram, delivery_grew}
 use Rattle.history.specs.Lines.{Line, Lawful, Takes, got}
 use Rattle.history.specs.History.{Accepts, Taken, Refused, Delivers, NewestOf, NewestRead, NewestTaken}
-use Rattle.history.proofs.Joins.{Under}
+use Rattle.history.proofs.Joins.{Under, Order}
 use Rattle.history.proofs.Invariant.{but_same, but_other, set_all, past, held, Extends, Marked, Links, Good, Says, Sound, Inv, marked_on, links_on, links_drop}
 use Rattle.history.proofs.Growth.{NextPages, next_extends, next_sane, next_held, still_extends, still_sane, Recorded, recorded, grown_good, replaced, rerouted}
 use Rattle.history.proofs.Reading.{reads_as}
@@ -28,7 +28,7 @@ lowest_top own top i (m ∷ ms) =
     let below = lowest_top own top (suc i) ms in
     cond_both (eqb i own) (lowest own top (suc i) ms) (min m (lowest own top (suc i) ms)) (λ x. x ≤ top) (λ e. below) (λ e. omega arith)
 
-module _ {V : Type 0} (o : Ops V) (L : Laws o) where
+module _ {V : Type 0} (o : Ops V) (L : Order o) where
   -- a mark raised
   raised_good : (P : ℕ → Page V) (n r : ℕ) (p : Replica V) (from k : ℕ) → Good o P r p → from < 8 → k ≤ (P r).age → Under o (past o P r k) (held o P from) → Good o (but P r (marked (P r) from k)) r (raised n r p from k)
   unfolding raised marked

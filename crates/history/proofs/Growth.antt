@@ -5,18 +5,16 @@ use lib.Seq.{drop-append-le}
 use borrow.Author.Tests.{eqb-false}
 use Rattle.std.proofs.lemmas.Bool.{cond_both, cases_eq}
 use Rattle.std.proofs.lemmas.List.{length_push}
-use Rattle.lattice.specs.Laws.{Laws}
 use Rattle.lattice.specs.Ops.{Ops, difference}
-use Rattle.lattice.proofs.Differences.{difference_under}
 use Rattle.lattice.proofs.Order.{join_mono, under_left}
 use Rattle.channel.specs.Meaning.{Waiting}
 use Rattle.history.specs.declared.kept.Kept.{Kept}
 use Rattle.history.specs.Group.{Group, Replica, size, replica, mark, blank, with_replica, Recording, stays, grows, at_end, newest, extended, recording}
 use Rattle.history.specs.Book.{Page, Account, worth, but, older}
-use Rattle.history.proofs.Joins.{Under, of_equal, worth_union, difference_lowest, difference_joins, difference_none}
+use Rattle.history.proofs.Joins.{Under, Order, of_equal, worth_union, difference_under, difference_lowest, difference_joins, difference_none}
 use Rattle.history.proofs.Invariant.{but_same, but_other, but_all, set_all, past, held, Extends, Sane, Link, Links, Good, Sound, Inv, links_on, good_on, marked_on, sound_on, links_drop, links_push}
 
-module _ {V : Type 0} (o : Ops V) (L : Laws o) where
+module _ {V : Type 0} (o : Ops V) (L : Order o) where
   -- what is sane stays so where each page is at most one age older
   sane_on : (P Q : ℕ → Page V) → Extends o P Q → ((r : ℕ) → (Q r).age ≤ (P r).age + 1) → Sane o P → Sane o Q
   sane_on P Q x one s = record {
@@ -33,14 +31,14 @@ module _ {V : Type 0} (o : Ops V) (L : Laws o) where
     abbrev pub NextPages : ℕ → Page V
     NextPages = but P r (older (P r) more)
 
-    next_page : NextPages r ≡ older (P r) more
+    pub next_page : NextPages r ≡ older (P r) more
     next_page = but_same P r (older (P r) more)
 
-    next_age : (NextPages r).age ≡ (P r).age + 1
+    pub next_age : (NextPages r).age ≡ (P r).age + 1
     unfolding older
     next_age = ap (λ (y : Page V). y.age) next_page
 
-    next_marks : (j : ℕ) → (NextPages r).marks j ≡ (P r).marks j
+    pub next_marks : (j : ℕ) → (NextPages r).marks j ≡ (P r).marks j
     unfolding older
     next_marks j = ap (λ (y : Page V). y.marks j) next_page
 
@@ -56,7 +54,7 @@ module _ {V : Type 0} (o : Ops V) (L : Laws o) where
     unfolding older
     older_age = refl
 
-    next_old : (k : ℕ) → k ≤ (P r).age → past o NextPages r k ≡ past o P r k
+    pub next_old : (k : ℕ) → k ≤ (P r).age → past o NextPages r k ≡ past o P r k
     next_old k h = ap (λ (y : Page V). worth o (y.at k)) next_page ∙ ap (worth o) (older_old k h)
 
     older_held : worth o ((older (P r) more).at (older (P r) more).age) ≡ o.join (held o P r) (worth o more)
@@ -65,7 +63,7 @@ module _ {V : Type 0} (o : Ops V) (L : Laws o) where
     pub next_held : held o NextPages r ≡ o.join (held o P r) (worth o more)
     next_held = ap (λ (y : Page V). worth o (y.at y.age)) next_page ∙ older_held
 
-    next_new : past o NextPages r (suc (P r).age) ≡ o.join (held o P r) (worth o more)
+    pub next_new : past o NextPages r (suc (P r).age) ≡ o.join (held o P r) (worth o more)
     next_new = ap (λ (i : ℕ). past o NextPages r i) (sym (add-one (P r).age) ∙ sym next_age) ∙ next_held
 
     pub next_extends : Extends o P NextPages

@@ -4,7 +4,6 @@ use mathlib.Core.List.{Memᴰ}
 use borrow.Author.Tests.{eqb-false}
 use Rattle.std.proofs.lemmas.Bool.{cond-true, cond-false, cond_both, cases_eq}
 use Rattle.std.proofs.lemmas.List.{get_or-set_same, get_or-set_other}
-use Rattle.lattice.specs.Laws.{Laws}
 use Rattle.lattice.specs.Ops.{Ops}
 use Rattle.lattice.proofs.Order.{join_mono}
 use Rattle.wire.specs.Datagrams.{header_of, written}
@@ -14,7 +13,7 @@ use Rattle.channel.specs.Meaning.{Waiting}
 use Rattle.history.specs.declared.kept.Kept.{Kept}
 use Rattle.history.specs.Group.{Group, Replica, size, replica, mark, not_from, join_all}
 use Rattle.history.specs.Book.{Page, worth, but}
-use Rattle.history.proofs.Joins.{Under}
+use Rattle.history.proofs.Joins.{Under, Order}
 
 pub but_same : {X : Type 0} (f : ℕ → X) (i : ℕ) (x : X) → but f i x i ≡ x
 but_same f i x = cond-true (eqb i i) x (f i) (eq-eqb i i refl)
@@ -98,7 +97,7 @@ module _ {V : Type 0} (o : Ops V) where
     pub good : (r : ℕ) → r < size g → Good P r (replica o g r)
     pub sound : (x : Waiting) → Memᴰ x ws → Sound P (size g) x.to x.bytes
 
-module _ {V : Type 0} (o : Ops V) (L : Laws o) where
+module _ {V : Type 0} (o : Ops V) (L : Order o) where
   -- Growth
 
   pub marked_on : (P Q : ℕ → Page V) → Extends o P Q → (r j m : ℕ) → Marked o P r j m → Marked o Q r j m
@@ -107,7 +106,7 @@ module _ {V : Type 0} (o : Ops V) (L : Laws o) where
     there = subst (λ y. Under o y (held o Q j)) (sym (x.pasts r m k.reached)) (L.lattice.trans (past o P r m) (held o P j) (held o Q j) k.there (x.helds j));
   }
 
-  link_on : (P Q : ℕ → Page V) → Extends o P Q → (r k : ℕ) (d : Kept V) → Link o P r k d → Link o Q r k d
+  pub link_on : (P Q : ℕ → Page V) → Extends o P Q → (r k : ℕ) (d : Kept V) → Link o P r k d → Link o Q r k d
   link_on P Q x r k d l =
       let a = x.ages r in
       let b = l.below in
@@ -137,7 +136,7 @@ module _ {V : Type 0} (o : Ops V) (L : Laws o) where
     marks_good = λ j h. marked_on P Q x r j (mark p j) (g.marks_good j h);
   }
 
-  says_on : (P Q : ℕ → Page V) → Extends o P Q → (d : Datagram V) → Says o P d → Says o Q d
+  pub says_on : (P Q : ℕ → Page V) → Extends o P Q → (d : Datagram V) → Says o P d → Says o Q d
   says_on P Q x (delta h v) s =
       let from = h.from in
       let to = h.to in

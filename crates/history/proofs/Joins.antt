@@ -2,7 +2,8 @@
 use Rattle.std.proofs.Common.{◌≡◌, true, [], ◌∷◌, ◌++◌, sym, refl, ap, ◌∙◌, subst, inl, inr}
 use mathlib.Core.List.Memᴰ
 use mathlib.Core.List.{Memᴰ}
-use Rattle.lattice.specs.Laws.{Laws}
+use Rattle.lattice.specs.Laws.{Lattice, Laws}
+use Rattle.lattice.specs.Least.{DifferenceLeast}
 use Rattle.lattice.specs.Ops.{Ops, difference}
 use Rattle.lattice.proofs.Differences.{difference_least}
 use Rattle.lattice.proofs.Order.{bottom_join, join_assoc, join_bottom, join_comm, under_eq, under_right}
@@ -12,17 +13,29 @@ use Rattle.history.specs.History.{SameAccount}
 abbrev pub Under : {V : Type 0} → Ops V → V → V → Type 0
 Under o a b = o.under a b ≡ true
 
-module _ {V : Type 0} (o : Ops V) (L : Laws o) where
+-- the order, and what the difference is for: the history rests on no other law of a kind
+pub record Order {V : Type 0} (o : Ops V) : Type 0 where
+  pub lattice : Lattice o
+  pub least_difference : DifferenceLeast o
+
+pub order_of : {V : Type 0} (o : Ops V) → Laws o → Order o
+order_of o L = record { lattice = L.lattice; least_difference = difference_least o L }
+
+module _ {V : Type 0} (o : Ops V) (L : Order o) where
   pub of_equal : (a b : V) → a ≡ b → Under o a b
   of_equal a b e = under_eq o L.lattice a a b e (L.lattice.refl a)
 
+  -- the difference lies under what it is taken of
+  pub difference_under : (a b : V) → Under o (difference o a b) a
+  difference_under a b = (L.least_difference a b).lowest a refl
+
   -- a value joined with the difference is the join
   pub difference_joins : (a b : V) → o.join b (difference o a b) ≡ o.join b a
-  difference_joins a b = join_comm o L.lattice b (difference o a b) ∙ (difference_least o L a b).joins ∙ join_comm o L.lattice a b
+  difference_joins a b = join_comm o L.lattice b (difference o a b) ∙ (L.least_difference a b).joins ∙ join_comm o L.lattice a b
 
   -- and the difference is the least that does so
   pub difference_lowest : (a b x : V) → o.join b x ≡ o.join b a → Under o (difference o a b) x
-  difference_lowest a b x e = (difference_least o L a b).lowest x (join_comm o L.lattice x b ∙ e ∙ join_comm o L.lattice b a)
+  difference_lowest a b x e = (L.least_difference a b).lowest x (join_comm o L.lattice x b ∙ e ∙ join_comm o L.lattice b a)
 
   -- nothing is new just where all lies under
   pub difference_none : (a b : V) → Under o (difference o a b) o.bottom → Under o a b

@@ -14,13 +14,13 @@ use Rattle.history.specs.Group as calls
 use Rattle.history.specs.Book.{Book, Event, act, ship, deliver, restart, History, account, value_at, worth, empty_book, book}
 use Rattle.history.specs.Lines.{Line, Lawful}
 use Rattle.history.specs.History.{State, Step, Reached, making, call, between, NewestCall, Holds, Knows, Keeps, Stands, HistoryStands, CarriesOn}
-use Rattle.history.proofs.Joins.{Under, worth_same, worth_none}
+use Rattle.history.proofs.Joins.{Under, Order, order_of, worth_same, worth_none}
 use Rattle.history.proofs.Invariant.{past, held, Sane, Marked, Link, Good, Inv, links_at}
 use Rattle.history.proofs.Growth.{rerouted}
 use Rattle.history.proofs.Steps.{After, ship_after, well_shipped, ship_keeps, act_keeps, restart_keeps}
 use Rattle.history.proofs.Deliver.{deliver_keeps}
 
-module _ {V : Type 0} (o : Ops V) (L : Laws o) where
+module _ {V : Type 0} (o : Ops V) (L : Order o) where
   -- The making
 
   made_sane : Sane o (empty_book {V = V}).pages
@@ -130,7 +130,7 @@ module _ {V C : Type 0} (o : Ops V) (ch : Line C) where
     pub history_stands_lem : HistoryStands o ch
     history_stands_lem h s reached =
         let narrow = reached_usable reached in
-        let L = lawful narrow in
+        let L = order_of o (lawful narrow) in
         let k = reached_keeps o L narrow R ch M reached in
         inv_stands o L (ch.waits s.channel) h s.group k.0 k.1
 

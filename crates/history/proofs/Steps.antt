@@ -4,7 +4,6 @@ use lib.ListN.{get_or-replicate}
 use borrow.Author.Tests.{eqb-false, not-true}
 use Rattle.std.proofs.lemmas.Bool.{cond_both, and_parts}
 use Rattle.std.proofs.lemmas.List.{get_or-set_same}
-use Rattle.lattice.specs.Laws.{Laws}
 use Rattle.lattice.specs.Ops.{Ops, difference}
 use Rattle.lattice.specs.declared.part.Act.{Act}
 use Rattle.lattice.specs.declared.refusal.Layer.TheVariants.{Group as of_group}
@@ -22,11 +21,11 @@ use Rattle.history.specs.Group as calls
 use Rattle.history.specs.Book.{Page, Book, Event, act, ship, restart, Mutation, worth, but, older, unmarked, with_page, mutation, with_mutation, or_bottom, entered}
 use Rattle.history.specs.Lines.{Line, Lawful, Puts}
 use Rattle.history.specs.History.{Ships, NewestOf, Newest}
-use Rattle.history.proofs.Joins.{Under, of_equal, worth_one}
+use Rattle.history.proofs.Joins.{Under, Order, of_equal, worth_one}
 use Rattle.history.proofs.Invariant.{but_same, but_other, past, held, Extends, Sane, Marked, Links, Good, Says, Sound, Inv, links_drop, shipped_under, shipped_covers}
 use Rattle.history.proofs.Growth.{NextPages, next_extends, next_sane, still_extends, still_sane, Recorded, recorded, grown_good, replaced, rerouted, taken_in}
 
-module _ {V : Type 0} (o : Ops V) (L : Laws o) where
+module _ {V : Type 0} (o : Ops V) (L : Order o) where
   pub extends_self : (P : ℕ → Page V) → Extends o P P
   extends_self P = record { ages = λ r. omega arith; pasts = λ r k h. refl; helds = λ r. L.lattice.refl (held o P r) }
 
@@ -35,7 +34,7 @@ module _ {V : Type 0} (o : Ops V) (L : Laws o) where
   size_kept g r p = length-set g.replicas r p
 
   -- the replica put in is the one found
-  found : (g : Group V) (r : ℕ) (p : Replica V) → r < size g → replica o (with_replica g r p) r ≡ p
+  pub found : (g : Group V) (r : ℕ) (p : Replica V) → r < size g → replica o (with_replica g r p) r ≡ p
   unfolding with_replica
   found g r p h = get_or-set_same g.replicas r p (blank o) h
 
@@ -65,7 +64,7 @@ module _ {V : Type 0} (o : Ops V) (L : Laws o) where
           (ltb-true r (size g) a.0, ltb-true j (size g) b.0, eqb-false r j (not-true (eqb r j) b.1), refl)
 
   -- what is shipped says what holds
-  shipment_says : (P : ℕ → Page V) (r j : ℕ) (p : Replica V) → Sane o P → Good o P r p → j < 8 → Says o P (delta (header r j p.clock) (shipment o p j))
+  pub shipment_says : (P : ℕ → Page V) (r j : ℕ) (p : Replica V) → Sane o P → Good o P r p → j < 8 → Says o P (delta (header r j p.clock) (shipment o p j))
   unfolding shipment
   shipment_says P r j p s g h =
       subst (λ k. Says o P (delta (header r j k) (shipment o p j))) (sym g.clock_is) (cond_both (leb p.oldest (mark p j)) (join_all o (not_from j (drop (mark p j - p.oldest) p.ring))) p.value (λ v. Says o P (delta (header r j (P r).age) v)) since whole)

@@ -9,7 +9,8 @@ use Rattle.std.proofs.lemmas.List.Sums.{sum_by_more, sum_by-le}
 use Rattle.lattice.specs.Simple.{all_below}
 use Rattle.lattice.proofs.Simples.{all_each, all_from}
 
-sum_by_front : (f count : ℕ → ℕ) (xs : List ℕ) → count 0 ≡ 0
+-- a sum of the first terms is any count from 0 that each element steps
+pub sum_by_front : (f count : ℕ → ℕ) (xs : List ℕ) → count 0 ≡ 0
     → ((i : ℕ) → i < length xs → count (i + 1) ≡ count i + f (get_or xs i 0)) → (n : ℕ) → n ≤ length xs → sum_by f (take n xs) ≡ count n
 sum_by_front f count xs none more zero h = sym none
 sum_by_front f count xs none more (suc n) h =
@@ -22,6 +23,11 @@ pub sum_by_steps : (f count : ℕ → ℕ) (xs : List ℕ) → count 0 ≡ 0
     → ((i : ℕ) → i < length xs → count (i + 1) ≡ count i + f (get_or xs i 0)) → sum_by f xs ≡ count (length xs)
 sum_by_steps f count xs none more =
     ap (sum_by f) (sym (take_all (length xs) xs (omega arith))) ∙ sum_by_front f count xs none more (length xs) (omega arith)
+
+-- and keeps below the cap a term, where each term does
+pub sum_by_front_low : (f : ℕ → ℕ) (cap : ℕ) (xs : List ℕ) → ((i : ℕ) → f (get_or xs i 0) ≤ cap) → (n : ℕ) → n ≤ length xs → sum_by f (take n xs) ≤ n * cap
+sum_by_front_low f cap xs low zero h = omega arith
+sum_by_front_low f cap xs low (suc n) h = omega (arith, rw add-one at (sum_by_more f xs n 0 (omega arith)), sum_by_front_low f cap xs low n (omega arith), low n)
 
 -- a sum of terms that keep below the cap
 pub sum_by_low : (f : ℕ → ℕ) (cap : ℕ) (xs : List ℕ) → ((i : ℕ) → f (get_or xs i 0) ≤ cap) → sum_by f xs ≤ length xs * cap

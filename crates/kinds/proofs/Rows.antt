@@ -18,17 +18,17 @@ unfolding sum_below
 sum_split f g m zero h = simp add-zero
 sum_split f g m (suc n) h = rw add-suc (omega (arith, sum_split f g m n (λ k l. h k (omega arith)), h n (omega arith)))
 
-ones_bits : (n w : ℕ) → w < 2 ^ n → count_ones w ≡ sum_below (bit_at w) n
+pub ones_bits : (n w : ℕ) → w < 2 ^ n → count_ones w ≡ sum_below (bit_at w) n
 unfolding sum_below
 ones_bits zero w h = omega (arith, ones-le 0 w h)
 ones_bits (suc n) w h =
     let rest = sum_split (bit_at w) (bit_at (w / 2)) 1 n (λ k l. rw one-add (bit_at-suc w k)) in
     omega (arith, rw one-add at rest, ones_step w, ones_bits n (w / 2) (omega (arith, pow-suc 2 n)))
 
-row_set_same : (ws : List ℕ) (i w s : ℕ) → i < length ws → s / 64 ≡ i → row_bit (slice_set ws i w) s ≡ bit_at w (s % 64)
+pub row_set_same : (ws : List ℕ) (i w s : ℕ) → i < length ws → s / 64 ≡ i → row_bit (slice_set ws i w) s ≡ bit_at w (s % 64)
 row_set_same ws i w s h e = ap (λ (x : ℕ). bit_at x (s % 64)) (ap (λ (j : ℕ). slice_index (slice_set ws i w) j) e ∙ get_or-set_same ws i w 0 h)
 
-row_set_other : (ws : List ℕ) (i w s : ℕ) → (s / 64 ≢ i) → row_bit (slice_set ws i w) s ≡ row_bit ws s
+pub row_set_other : (ws : List ℕ) (i w s : ℕ) → (s / 64 ≢ i) → row_bit (slice_set ws i w) s ≡ row_bit ws s
 row_set_other ws i w s n = ap (λ (x : ℕ). bit_at x (s % 64)) (get_or-set_other ws i (s / 64) w 0 n)
 
 -- a word is under another just when their union is the other: bit by bit, and from the bits of two rows

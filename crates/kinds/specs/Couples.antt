@@ -1,13 +1,22 @@
 -- The pair of two kinds keeps the laws. Assumes nothing.
-use Rattle.std.specs.Prelude.{◌≡◌, ℕ, ◌+◌, ◌-◌, ◌<◌, ◌≤◌, true, false, cond, ◌⊎◌, ◌≢◌, nat_lt}
+use Rattle.std.specs.Prelude.{◌≡◌, ℕ, ◌+◌, ◌-◌, ◌<◌, ◌≤◌, Bool, true, false, cond, ◌⊎◌, Some, None, ◌≢◌, nat_lt, refl}
 use Rattle.std.proofs.Common.{sym, ap, ap₂, subst, ◌∙◌, inl, inr, ⊎_elim, arith}
-use Rattle.std.proofs.lemmas.Bool.{and_parts, and_from, and_left, and_right, cases_lt, lt-ltb, le-ltb, cond-true, cond-false}
+use Rattle.std.proofs.lemmas.Bool.{and_parts, and_from, and_left, and_right, cases_lt, lt-ltb, le-ltb, ltb-true, cond-true, cond-false}
 use Rattle.kinds.specs.declared.pair.Pair.{Pair}
 use Rattle.lattice.specs.Laws.{Laws, Lattice, Levels}
 use Rattle.lattice.specs.Ops.{Ops}
 use Rattle.kinds.specs.Pairs.{on_left, on_right, pair_ops}
 use Rattle.lattice.proofs.Core.{laws_from}
+use Rattle.lattice.proofs.Order.{join_bottom}
 use Rattle.lattice.proofs.Parts.{part_under, part_not_bottom, whole_under}
+
+-- which way a slot that is found on the left went
+pub found_left : (s n k : ℕ) → None ≡ cond (nat_lt s n) None (Some k) → s < n
+found_left s n k e = ltb-true s n (go (nat_lt s n) e)
+  where
+    go : (t : Bool) → None ≡ cond t None (Some k) → t ≡ true
+    go true f = refl
+    go false f = let z : ◌≡◌ {A = ℕ} 0 1 = cc in absurd (omega arith)
 
 module _ {A B : Type 0} (p : Ops A) (q : Ops B) where
   abbrev o : Ops (Pair A B)
@@ -34,6 +43,9 @@ module _ {A B : Type 0} (p : Ops A) (q : Ops B) where
 
   left_admits : (s l : ℕ) → s < p.width → o.admits s l ≡ p.admits s l
   left_admits s l = on_its_left s _ _
+
+  pub answer_left : (s l : ℕ) (r : Bool) → s < p.width → r ≡ p.admits s l → r ≡ o.admits s l
+  answer_left s l r h e = e ∙ sym (left_admits s l h)
 
   right_admits : (t l : ℕ) → o.admits (p.width + t) l ≡ q.admits t l
   right_admits t l = on_its_right t _ (λ n. q.admits n l)
@@ -65,6 +77,18 @@ module _ {A B : Type 0} (p : Ops A) (q : Ops B) where
         and_from _ _ (L.least x.left y.left z.left c.0 d.0) (M.least x.right y.right z.right c.1 d.1);
     bottom_under = λ x. and_from _ _ (L.bottom_under x.left) (M.bottom_under x.right);
   }
+
+  -- a part joined on the left
+  pub join_left : (M : Lattice q) (x : Pair A B) (s l : ℕ) (z : A) → s < p.width → z ≡ cond (p.admits s l) (p.join x.left (p.part s l)) x.left
+      → ◌≡◌ {A = Pair A B} (record { left = z; right = x.right }) (cond (o.admits s l) (o.join x (o.part s l)) x)
+  join_left M x s l z h e =
+      go (p.admits s l) e ∙ ap (λ (w : Pair A B). cond (p.admits s l) (o.join x w) x) (sym (left_part s l h))
+      ∙ ap (λ (t : Bool). cond t (o.join x (o.part s l)) x) (sym (left_admits s l h))
+    where
+      go : (t : Bool) → z ≡ cond t (p.join x.left (p.part s l)) x.left
+          → ◌≡◌ {A = Pair A B} (record { left = z; right = x.right }) (cond t (o.join x (on_left p q (p.part s l))) x)
+      go true f = λ i. record { left = f i; right = sym (join_bottom q M x.right) i }
+      go false f = λ i. record { left = f i; right = x.right }
 
   module _ (L : Laws p) (M : Laws q) where
     -- a part is under a value just when it is on its own side

@@ -8,6 +8,7 @@ pub mod Ruled
 pub mod Fours
 pub mod TwoPhases
 pub mod Couples
+pub mod Wrappers
 pub mod Members
 pub mod Bounds
 pub mod Words

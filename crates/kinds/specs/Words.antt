@@ -2,13 +2,15 @@
 use Rattle.std.specs.Prelude.{◌≡◌, ℕ, zero, suc, ◌+◌, ◌*◌, ◌/◌, ◌%◌, ◌<◌, ◌≤◌, min, List, length, slice_index}
 use Rattle.std.proofs.Common.{sym, ap, ap₂, ◌∙◌, arith}
 use Rattle.std.specs.Int.{bit_at}
+use Rattle.std.specs.Int.Bits.{bit_or}
+use Rattle.std.proofs.lemmas.Nat.{or_lt}
 use Rattle.std.proofs.lemmas.Nat.Bits.{bit_at-zero, bit_at-suc, same_from_bits_below}
 use Rattle.std.proofs.lemmas.List.{ext_get_or, get_or_past}
 use Rattle.std.proofs.lemmas.List.FromFn.{get_or-map-range_with_len}
 use Rattle.kinds.specs.Bits.{word, row_bit, row}
 use Rattle.kinds.specs.Levels.{Bounded}
 
-bit_word : (n : ℕ) (f : ℕ → ℕ) (k : ℕ) → k < n → bit_at (word n f) k ≡ min (f k) 1
+pub bit_word : (n : ℕ) (f : ℕ → ℕ) (k : ℕ) → k < n → bit_at (word n f) k ≡ min (f k) 1
 unfolding word
 bit_word zero f k h = absurd (omega arith)
 bit_word (suc n) f zero h = omega arith
@@ -45,3 +47,9 @@ pub rows_same : (m : ℕ) (xs ys : List ℕ) → Bounded m 18446744073709551615 
 rows_same m xs ys p q h = ext_get_or 0 xs ys (p.0 ∙ sym q.0) (λ i l.
     same_from_bits_below 64 (slice_index xs i) (slice_index ys i) (omega (arith, p.1 i)) (omega (arith, q.1 i)) (λ k b.
     sym (row_place xs i k b) ∙ h (64 * i + k) (omega (arith, p.0)) ∙ row_place ys i k b))
+
+pub same_place : (s t : ℕ) → s / 64 ≡ t / 64 → s % 64 ≡ t % 64 → s ≡ t
+same_place s t p q = omega arith
+
+pub or_bounded : (a b : ℕ) → a ≤ 18446744073709551615 → b ≤ 18446744073709551615 → bit_or a b ≤ 18446744073709551615
+or_bounded a b p q = omega (arith, or_lt 64 a b (omega arith) (omega arith))

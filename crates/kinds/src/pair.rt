@@ -16,6 +16,7 @@ pub struct Pair<A, B> {
 
 // The slot as the right side numbers it, or none where it is the left side's.
 // The methods match on it one by one, since the sides are of two kinds and have no call in common.
+#[inline]
 fn right_slot<A: Kind>(slot: u16) -> Option<u16>
     ensures { MatchOption result (slot < A.ops.width) (λ s. slot ≡ A.ops.width + s) }
 {
@@ -25,6 +26,7 @@ fn right_slot<A: Kind>(slot: u16) -> Option<u16>
 
 impl<A: Kind, B: Kind> Pair<A, B> {
     // The left side given, with bottom on the right.
+    #[inline]
     pub(crate) fn on_left(left: A) -> Self
         ensures { result ≡ on_left A.ops B.ops left }
     {
@@ -33,6 +35,7 @@ impl<A: Kind, B: Kind> Pair<A, B> {
     }
 
     // The right side given, with bottom on the left.
+    #[inline]
     pub(crate) fn on_right(right: B) -> Self
         ensures { result ≡ on_right A.ops B.ops right }
     {
@@ -41,6 +44,7 @@ impl<A: Kind, B: Kind> Pair<A, B> {
     }
 }
 
+// `inline` asks the compiler to put these calls into their callers: each only hands on, and would copy what it answers.
 impl<A: Kind, B: Kind> Kind for Pair<A, B> {
     ghost ops = { pair_ops A.ops B.ops };
 
@@ -59,6 +63,7 @@ impl<A: Kind, B: Kind> Kind for Pair<A, B> {
         }
     }
 
+    #[inline]
     fn level(&self, slot: u16) -> u64 {
         match right_slot::<A>(slot) {
             None => self.left.level(slot),
@@ -66,6 +71,7 @@ impl<A: Kind, B: Kind> Kind for Pair<A, B> {
         }
     }
 
+    #[inline]
     fn admits(part: Part) -> bool {
         match right_slot::<A>(part.slot) {
             None => A::admits(part),
@@ -77,6 +83,7 @@ impl<A: Kind, B: Kind> Kind for Pair<A, B> {
         self.left.under(&other.left) && self.right.under(&other.right)
     }
 
+    #[inline]
     fn covers(&self, part: Part) -> bool {
         match right_slot::<A>(part.slot) {
             None => self.left.covers(part),
@@ -84,11 +91,13 @@ impl<A: Kind, B: Kind> Kind for Pair<A, B> {
         }
     }
 
+    #[inline]
     fn join(&mut self, other: &Self) {
         self.left.join(&other.left);
         self.right.join(&other.right);
     }
 
+    #[inline(always)]
     fn join_part(&mut self, part: Part) -> bool {
         match right_slot::<A>(part.slot) {
             None => self.left.join_part(part),
@@ -96,6 +105,7 @@ impl<A: Kind, B: Kind> Kind for Pair<A, B> {
         }
     }
 
+    #[inline]
     fn effect(&self, actor: u8, act: Act) -> Result<Self, KindFault> {
         let inner = Act {
             place: act.place / 2,

@@ -35,6 +35,7 @@ impl<K: Kind, R> From<K> for Ruled<K, R> {
     }
 }
 
+// `inline` asks the compiler to put these calls into their callers: each only hands on, and would copy what it answers.
 impl<K: Kind, R: Rule<K>> Kind for Ruled<K, R> {
     ghost ops = { ruled_ops K.ops R.effect };
 
@@ -50,10 +51,12 @@ impl<K: Kind, R: Rule<K>> Kind for Ruled<K, R> {
         Ruled::from(K::bottom())
     }
 
+    #[inline]
     fn level(&self, slot: u16) -> u64 {
         self.held.level(slot)
     }
 
+    #[inline]
     fn admits(part: Part) -> bool {
         K::admits(part)
     }
@@ -62,18 +65,22 @@ impl<K: Kind, R: Rule<K>> Kind for Ruled<K, R> {
         self.held.under(&other.held)
     }
 
+    #[inline]
     fn covers(&self, part: Part) -> bool {
         self.held.covers(part)
     }
 
+    #[inline]
     fn join(&mut self, other: &Self) {
         self.held.join(&other.held);
     }
 
+    #[inline(always)]
     fn join_part(&mut self, part: Part) -> bool {
         self.held.join_part(part)
     }
 
+    #[inline]
     fn effect(&self, actor: u8, act: Act) -> Result<Self, KindFault> {
         R::effect(self, actor, act)
     }

@@ -1,14 +1,14 @@
 -- The difference: the walk that finds it, and that it is least. Assumes nothing.
-use Rattle.std.proofs.Common.{◌≡◌, ℕ, ◌<◌, Bool, true, false, cond, ◌&&◌, List, [], ◌∷◌, ◌++◌, sym, refl, ap, ◌∙◌, subst, ⊎_elim}
+use Rattle.std.proofs.Common.{◌≡◌, ℕ, ◌+◌, ◌<◌, ◌≤◌, Bool, true, false, cond, ◌&&◌, List, [], ◌∷◌, ◌++◌, sym, refl, ap, ◌∙◌, subst, ⊎_elim, arith}
 use Rattle.std.specs.List.{AllByRecursion as All}
 use Rattle.std.proofs.lemmas.List.{append-nil}
 use Rattle.std.proofs.lemmas.Bool.{and_parts, both_ways, cond-true}
 use Rattle.lattice.specs.Laws.{Laws, Lattice}
 use Rattle.lattice.specs.Least.{Least}
-use Rattle.lattice.specs.Ops.{Ops, alone, covered, with_part, parts, joined, beyond, difference}
+use Rattle.lattice.specs.Ops.{Ops, alone, covered, with_part, parts_at, parts_below, parts, joined, beyond, difference}
 use Rattle.lattice.specs.declared.part.Part.{Part}
 use Rattle.lattice.proofs.Order.{under_left, under_eq, join_mono}
-use Rattle.lattice.proofs.Parts.{parts_all, joined_least, joined_push, part_under}
+use Rattle.lattice.proofs.Parts.{part_of, at_none, at_one, parts_more, parts_all, joined_least, joined_push, part_under}
 
 module _ {K : Type 0} (o : Ops K) where
   beyond_append : (b : K) (xs ys : List Part) → beyond o b (xs ++ ys) ≡ beyond o b xs ++ beyond o b ys
@@ -20,6 +20,47 @@ module _ {K : Type 0} (o : Ops K) where
           → cond t (beyond o b (xs ++ ys)) (p ∷ beyond o b (xs ++ ys)) ≡ cond t (beyond o b xs) (p ∷ beyond o b xs) ++ beyond o b ys
       go true e = e
       go false e = ap (λ (zs : List Part). p ∷ zs) e
+
+  -- one slot more, where ps are the parts there that are not under b
+  beyond_more : (a b : K) (n : ℕ) (ps : List Part) → beyond o b (parts_at o n (o.level a n)) ≡ ps
+      → beyond o b (parts_below o a (n + 1)) ≡ beyond o b (parts_below o a n) ++ ps
+  beyond_more a b n ps e =
+      ap (beyond o b) (parts_more o a n) ∙ beyond_append b (parts_below o a n) (parts_at o n (o.level a n))
+      ∙ ap (λ (qs : List Part). beyond o b (parts_below o a n) ++ qs) e
+
+  beyond_one : (b : K) (s l : ℕ) (t : Bool) → 0 < l → o.under (o.part s l) b ≡ t → beyond o b (parts_at o s l) ≡ cond t [] (part_of s l ∷ [])
+  unfolding beyond
+  beyond_one b s l t h e = ap (beyond o b) (at_one o s l h) ∙ ap (λ (u : Bool). cond u [] (part_of s l ∷ [])) e
+
+  -- what the walk over the slots below n has found
+  abbrev pub found : K → K → ℕ → K
+  found a b n = joined o (beyond o b (parts_below o a n))
+
+  -- A turn of the walk, for the level l read at slot n: there is none, it is covered, or it is joined.
+  pub turn_none : (a b : K) (n l : ℕ) (acc out : K) → l ≡ o.level a n → l ≤ 0 → acc ≡ found a b n → out ≡ acc → out ≡ found a b (n + 1)
+  unfolding beyond
+  turn_none a b n l acc out e z h k =
+      k ∙ h ∙ ap (joined o) (sym (beyond_more a b n [] (ap (beyond o b) (at_none o n (o.level a n) (omega arith))) ∙ append-nil (beyond o b (parts_below o a n))))
+
+  module _ (L : Laws o) where
+    pub turn_covered : (a b : K) (n l : ℕ) (t : Bool) (acc out : K) → l ≡ o.level a n → 0 < l
+        → t ≡ (o.admits n l && o.under (o.part n l) b) → t ≡ true → acc ≡ found a b n → out ≡ acc → out ≡ found a b (n + 1)
+    turn_covered a b n l t acc out e p c y h k =
+        let u : o.under (o.part n (o.level a n)) b ≡ true =
+        subst (λ (m : ℕ). o.under (o.part n m) b ≡ true) e (and_parts (o.admits n l) (o.under (o.part n l) b) (sym c ∙ y)).1 in
+        k ∙ h ∙ ap (joined o) (sym (beyond_more a b n [] (beyond_one b n (o.level a n) true (omega arith) u) ∙ append-nil (beyond o b (parts_below o a n))))
+
+    pub turn_joined : (a b : K) (n l : ℕ) (t : Bool) (acc next out : K) → l ≡ o.level a n → 0 < l
+        → t ≡ (o.admits n l && o.under (o.part n l) b) → t ≡ false → acc ≡ found a b n
+        → next ≡ cond (o.admits n l) (o.join acc (o.part n l)) acc → out ≡ next → out ≡ found a b (n + 1)
+    turn_joined a b n l t acc next out e p c y h k j =
+        let v : o.admits n l ≡ true = subst (λ (m : ℕ). o.admits n m ≡ true) (sym e) (L.levels.admitted a n (omega arith)) in
+        let u : o.under (o.part n (o.level a n)) b ≡ false =
+        subst (λ (m : ℕ). o.under (o.part n m) b ≡ false) e (ap (λ (s : Bool). s && o.under (o.part n l) b) (sym v) ∙ sym c ∙ y) in
+        j ∙ k ∙ cond-true (o.admits n l) _ _ v
+        ∙ ap (λ (w : K). o.join w (o.part n l)) h ∙ ap (λ (m : ℕ). o.join (found a b n) (o.part n m)) e
+        ∙ sym (ap (joined o) (beyond_more a b n (part_of n (o.level a n) ∷ []) (beyond_one b n (o.level a n) false (omega arith) u))
+        ∙ joined_push o L.lattice (beyond o b (parts_below o a n)) (part_of n (o.level a n)))
 
   -- What a walk over parts has joined, of those that are not under b: after a part that is covered, and after one that is not.
   pub walk_covered : (b : K) (seen : List Part) (p : Part) (t : Bool) → t ≡ covered o b p → t ≡ true

@@ -1,9 +1,9 @@
 -- The list of a value's parts, and joins of listed parts. Assumes nothing.
 use Rattle.std.specs.Prelude.{Err, Ok, min, nat_lt}
-use Rattle.std.proofs.Common.{◌≡◌, ℕ, zero, suc, ◌+◌, ◌-◌, ◌<◌, ◌≤◌, true, false, List, [], ◌∷◌, ◌++◌, length, sym, refl, ap, ap₂, ◌∙◌, subst, ⊎_elim, add-zero, add-one, arith, length-append}
+use Rattle.std.proofs.Common.{◌≡◌, ℕ, zero, suc, ◌+◌, ◌-◌, ◌<◌, ◌≤◌, true, false, List, [], ◌∷◌, ◌++◌, length, sym, refl, ap, ap₂, ◌∙◌, subst, ⊎_elim, add-zero, add-suc, add-one, arith, length-append}
 use Rattle.std.specs.List.{AllByRecursion as All}
 use Rattle.std.proofs.ByRecursion.{All-append}
-use Rattle.std.proofs.lemmas.List.{append-nil, append_assoc}
+use Rattle.std.proofs.lemmas.List.{append-nil, append_assoc, length_push}
 use Rattle.std.proofs.lemmas.Bool.{cases_order, cases_Bool, cond-false, le-ltb}
 use Rattle.lattice.specs.Laws.{Laws, Lattice, Usable}
 use Rattle.lattice.specs.Ops.{Ops, alone, parts_at, parts_below, parts, joined, walked}
@@ -56,6 +56,12 @@ module _ {K : Type 0} (o : Ops K) where
   below_one x n l e p =
       parts_more x n ∙ ap (λ (ps : List Part). parts_below o x n ++ ps) (at_one n (o.level x n) (omega arith) ∙ ap (λ (k : ℕ). part_of n k ∷ []) (sym e))
 
+  pub count_none : (x : K) (n l : ℕ) → l ≡ o.level x n → l ≤ 0 → length (parts_below o x (n + 1)) ≡ length (parts_below o x n)
+  count_none x n l e z = ap length (below_none x n l e z)
+
+  pub count_one : (x : K) (n l : ℕ) → l ≡ o.level x n → 0 < l → length (parts_below o x (n + 1)) ≡ length (parts_below o x n) + 1
+  count_one x n l e p = ap length (below_one x n l e p) ∙ length_push (parts_below o x n) (part_of n l)
+
   -- there are no more parts than slots, and no fewer below a higher slot
   pub below_length : (x : K) (n : ℕ) → length (parts_below o x n) ≤ n
   unfolding parts_below parts_at
@@ -65,6 +71,16 @@ module _ {K : Type 0} (o : Ops K) where
       go : (l : ℕ) → length (parts_below o x n) ≤ n → length (parts_below o x n ++ parts_at o n l) ≤ suc n
       go zero h = simp append-nil (omega arith)
       go (suc l) h = simp length-append (omega arith)
+
+  below_grows : (x : K) (n k : ℕ) → length (parts_below o x n) ≤ length (parts_below o x (n + k))
+  unfolding parts_below
+  below_grows x n zero = simp add-zero (omega arith)
+  below_grows x n (suc k) = rw add-suc (simp length-append (omega (arith, below_grows x n k)))
+
+  pub below_room : (x : K) (n : ℕ) → n ≤ o.width → length (parts_below o x n) ≤ length (parts o x)
+  below_room x n h =
+      let e : n + (o.width - n) ≡ o.width = omega arith in
+      subst (λ (m : ℕ). length (parts_below o x n) ≤ length (parts_below o x m)) e (below_grows x n (o.width - n))
 
   -- a walk that begins at a slot comes to the parts that do not stand below it
   below_from : (x : K) (s n : ℕ) → parts_below o x s ++ parts_from o x s n ≡ parts_below o x (s + n)

@@ -1,6 +1,6 @@
 -- A simple kind keeps the laws, and how its calls are told by levels. Assumes nothing.
 use Rattle.std.proofs.Common.{◌≡◌, ℕ, zero, suc, ◌<◌, ◌≤◌, max, Bool, true, false, cond, ◌&&◌, eqb, ltb, leb, ◌⊎◌, Result, sym, refl, ap, ◌∙◌, subst, inl, inr, ⊎_elim, arith}
-use Rattle.std.proofs.lemmas.Bool.{and_parts, and_from, cases_order, cases_lt, cases_eq, cases_Bool, lt-ltb, le-leb, ltb-true, leb-true, eq-eqb, ne_eqb, both_ways, cond-true}
+use Rattle.std.proofs.lemmas.Bool.{and_parts, and_from, and_left, cases_order, cases_lt, cases_eq, cases_Bool, lt-ltb, le-leb, ltb-true, leb-true, eq-eqb, ne_eqb, both_ways, cond-true}
 use Rattle.lattice.specs.declared.part.Act.{Act}
 use Rattle.lattice.specs.Laws.{Laws, Lattice, Levels}
 use Rattle.lattice.specs.Ops.{Ops}
@@ -164,6 +164,16 @@ module _ {K : Type 0} (h : Shape K) (H : Shaped h) (effect : K → ℕ → Act �
       (cases_eq t s))
       ∙ sym (cond-true (o.admits s l) _ _ (sym a))
 
+  -- under, by the levels
+  pub under_true : (x y : K) → ((s : ℕ) → s < h.width → h.level x s ≤ h.level y s) → true ≡ o.under x y
+  under_true x y f = sym (le_under x y f)
+
+  pub under_false : (x y : K) → (((s : ℕ) → h.level x s ≤ h.level y s) → ⊥) → false ≡ o.under x y
+  under_false x y no-order = ⊎_elim
+      (λ (u : o.under x y ≡ true). absurd (no-order (under_le x y u)))
+      (λ (u : o.under x y ≡ false). sym u)
+      (cases_Bool (o.under x y))
+
   pub admits_within : (s l : ℕ) → o.admits s l ≡ true → (s < h.width) × (0 < l) × (l ≤ h.cap)
   admits_within = within
 
@@ -172,3 +182,6 @@ module _ {K : Type 0} (h : Shape K) (H : Shaped h) (effect : K → ℕ → Act �
   covers_yes s l v x a e =
       let w = within s l (sym a) in
       ap (leb l) e ∙ part_test s l x w.0 w.2 ∙ ap (λ (t : Bool). t && o.under (o.part s l) x) a
+
+  pub covers_no : (s l : ℕ) (x : K) (r : Bool) → r ≡ o.admits s l → r ≡ false → r ≡ (o.admits s l && o.under (o.part s l) x)
+  covers_no s l x r a e = e ∙ sym (and_left (o.admits s l) (o.under (o.part s l) x) (sym a ∙ e))

@@ -33,6 +33,8 @@ impl<K: Kind> Iterator for Parts<'_, K> {
 
     ghost remaining = { item_count (to_come K.ops) };
 
+    // Without the hint a reading takes a tenth more.
+    #[inline(always)]
     fn next(&mut self) -> Option<Part> {
         while let Some(slot) = self.slots.next() {
             let level = self.value.level(slot);

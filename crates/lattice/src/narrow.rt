@@ -41,6 +41,19 @@ impl<K: Kind> Narrow<K> {
     pub fn count(&self, value: &K) -> u16
         ensures { result ≡ length (parts K.ops value.now) }
     {
-        self.parts(value).count() as u16
+        parts_of(self, value)
     }
+}
+
+// Goes over the slots by itself: under `Parts` this walk takes up to twice the time.
+fn parts_of<K: Kind>(_narrow: &Narrow<K>, value: &K) -> u16
+    ensures { result ≡ length (parts K.ops value.now) }
+{
+    let mut count = 0;
+    for slot in 0..K::width() as u16 {
+        if value.level(slot) > 0 {
+            count += 1;
+        }
+    }
+    count
 }

@@ -12,7 +12,9 @@ impl<K: Kind> fmt::Display for Shown<'_, K> {
     fn fmt<W: fmt::Write>(&self, f: &mut fmt::Formatter<W>) -> fmt::Result {
         f.write_str("{")?;
         let mut first = true;
-        for part in Parts::first(self.0, MOST_SLOTS) {
+        // No value has a part past its kind's width.
+        let slots = K::width().min(u32::from(MOST_SLOTS)) as u16;
+        for part in Parts::first(self.0, slots) {
             if !first {
                 f.write_str(" ")?;
             }

@@ -8,6 +8,7 @@ ghost use Rattle.lattice.specs.Ops.{difference, parts, walked};
 use crate::fault::KindFault;
 use crate::kind::Kind;
 use crate::narrow::Narrow;
+use crate::part::Part;
 
 // Refuses a kind whose slots are too many to be walked, for who wants that answer alone.
 pub fn walkable<K: Kind>() -> Result<(), KindFault>
@@ -38,13 +39,25 @@ pub fn difference<K: Kind>(a: &K, b: &K) -> Result<K, KindFault>
     ensures least { IfOk result (Least K.ops a.now b.now) }
 {
     let narrow = Narrow::check()?;
-    let mut lacked = K::bottom();
-    for part in narrow.parts(a) {
-        if !b.covers(part) {
-            lacked.join_part(part);
+    Ok(lacking(&narrow, a, b))
+}
+
+// Goes over the slots by itself: under `Parts` this walk takes twice the time at a kind of few slots.
+fn lacking<K: Kind>(_narrow: &Narrow<K>, a: &K, b: &K) -> K
+    ensures answer { result ≡ difference K.ops a.now b.now }
+    ensures least { Least K.ops a.now b.now result }
+{
+    let mut out = K::bottom();
+    for slot in 0..K::width() as u16 {
+        let level = a.level(slot);
+        if level > 0 {
+            let part = Part { slot, level };
+            if !b.covers(part) {
+                out.join_part(part);
+            }
         }
     }
-    Ok(lacked)
+    out
 }
 
 // For every kind: the difference of any two values is least in this sense.

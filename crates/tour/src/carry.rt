@@ -30,6 +30,7 @@ pub struct Carried<'a, K> {
 }
 
 // Brings `there` up to `here` by one datagram through `buf`: afterwards it holds the join of both. A refusal leaves it alone.
+#[tactic(auto, using(crate::proofs::Carries::arrives_delta, crate::proofs::Carries::arrives_ack))]
 pub fn carry<'a, K: Kind>(
     header: Header,
     here: &K,

@@ -6,7 +6,6 @@ mod carry;
 mod hex;
 mod site;
 
-use arrayvec::ArrayVec;
 use by_hand::mend;
 use carry::bring_level;
 use hex::Hex;
@@ -97,13 +96,15 @@ fn lacked<K: Kind>(
 
 // Shows a datagram, and what comes of a copy of it that was damaged on the way.
 fn went(rt: &HostRuntime, bytes: &[u8]) -> anyhow::Result<()> {
-    let len = bytes.len();
-    println!(rt; "      {len} bytes: {}", Hex(bytes))?;
-    let mut copy = ArrayVec::<u8, LONGEST>::try_from(bytes)?;
+    let len = bytes.len().min(LONGEST);
+    println!(rt; "      {len} bytes: {}", Hex(&bytes[..len]))?;
+    let mut room = [0u8; LONGEST];
+    let copy = &mut room[..len];
+    copy.copy_from_slice(&bytes[..len]);
     if let Some(byte) = copy.get_mut(2) {
         *byte ^= 4;
     }
-    if let Err(fault) = read::<Stock>(copy.as_slice()) {
+    if let Err(fault) = read::<Stock>(copy) {
         let number = fault.number();
         println!(rt; "      a copy with one bit turned: refused by {number}, {fault}")?;
     }

@@ -87,6 +87,11 @@ delta_written b h ps r =
     ∙ over_front_last b 12 (list_bytes ps) (H ++ C) r (length-append H C ∙ omega (arith, length_head (12 + 10 * length ps) 1 h, length_le 2 (length ps)))
     ∙ ap (λ (zs : List ℕ). placed zs b) (append_assoc H C (list_bytes ps))
 
+-- a part, its two numbers one by one
+pub part_over : (b : List ℕ) (at s l : ℕ) → at ≤ length b → over (over b at (le 2 s)) (at + 2) (le 8 l) ≡ over b at (part_bytes s l)
+unfolding part_bytes
+part_over b at s l h = over_more b at (le 2 s) (le 8 l) (at + 2) h (omega (arith, length_le 2 s))
+
 -- one part more
 pub part_written : (b0 b b' : List ℕ) (ps qs : List Part) (n s l : ℕ) (xs : List ℕ) → 12 ≤ length b0 → n ≡ length ps → b ≡ over b0 12 (list_bytes ps)
     → xs ≡ part_bytes s l → b' ≡ over b (12 + 10 * n) xs → qs ≡ ps ++ record { slot = s; level = l } ∷ [] → b' ≡ over b0 12 (list_bytes qs)

@@ -9,6 +9,7 @@ use crate::datagram::{Header, Sort};
 use lattice::part::Part;
 
 // The N bytes at a place.
+#[inline(always)]
 fn bytes_at<const N: usize>(b: &[u8], at: usize) -> [u8; N]
     requires { at + N ≤ length b.now }
     ensures { result ≡ take N (drop at b.now) }
@@ -71,12 +72,13 @@ pub(crate) fn head_bytes(len: u16, sort: Sort, header: Header) -> [u8; 10]
     ]
 }
 
-pub(crate) fn part_bytes(part: Part) -> [u8; 10]
-    ensures { result ≡ part_bytes part.slot part.level }
+// Writes a part at a place: its two numbers one by one, since the ten bytes put together first would be copied once more.
+pub(crate) fn put_part(buf: &mut [u8], at: usize, part: Part)
+    requires { at + 10 ≤ length buf.old }
+    ensures { buf.new ≡ over buf.old at (part_bytes part.slot part.level) }
 {
-    let s = part.slot.to_le_bytes();
-    let l = part.level.to_le_bytes();
-    [s[0], s[1], l[0], l[1], l[2], l[3], l[4], l[5], l[6], l[7]]
+    put(buf, at, &part.slot.to_le_bytes());
+    put(buf, at + 2, &part.level.to_le_bytes());
 }
 
 // Writes the header and the count of a delta to the front of a buffer.

@@ -19,6 +19,7 @@ impl Iterator for Listed<'_> {
 
     ghost remaining = { item_count to_come };
 
+    #[inline(always)]
     fn next(&mut self) -> Option<Part> {
         let bytes = self.0;
         if bytes.len() < PART {

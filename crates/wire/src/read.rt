@@ -106,9 +106,25 @@ fn join_listed<K: Kind>(_narrow: &Narrow<K>, list: &[u8]) -> Option<K>
     Some(value)
 }
 
-// Whether the parts of a value are those listed.
-fn lists<K: Kind>(narrow: &Narrow<K>, value: &K, list: &[u8]) -> bool
+// Whether the parts of a value are those listed. Goes over the slots by itself: under `Parts` this walk takes half as much
+// time again.
+fn lists<K: Kind>(_narrow: &Narrow<K>, value: &K, list: &[u8]) -> bool
     ensures { result ≡ same (parts K.ops value.now) (all_listed list.now) }
 {
-    narrow.parts(value).eq(Listed(list))
+    let mut listed = Listed(list);
+    for slot in 0..K::width() as u16 {
+        let level = value.level(slot);
+        if level > 0 {
+            let Some(part) = listed.next() else {
+                return false;
+            };
+            if part.slot != slot {
+                return false;
+            }
+            if part.level != level {
+                return false;
+            }
+        }
+    }
+    listed.next().is_none()
 }

@@ -6,12 +6,13 @@ ghost use Rattle.wire.specs.Datagrams.{ack_bytes, delta_bytes, delta_length, lis
 ghost use Rattle.wire.specs.declared.datagram.Datagram.TheVariants.{Delta};
 ghost use Rattle.wire.specs.Faults.{numbered};
 
-use crate::bytes::{head_bytes, part_bytes, put, put_head};
+use crate::bytes::{head_bytes, put, put_head, put_part};
 use crate::datagram::{Header, Sort};
 use crate::fault::{WireFault, check_width};
 use crate::listed::PART;
 use lattice::kind::Kind;
 use lattice::narrow::Narrow;
+use lattice::part::Part;
 
 // The bytes of the longest datagram: 1,024 parts.
 pub const LONGEST: usize = 10_252;
@@ -65,17 +66,20 @@ fn put_delta<K: Kind>(narrow: &Narrow<K>, header: Header, value: &K, buf: &mut [
 }
 
 // Writes the parts of a value from byte 12 on, and answers how many there are.
-fn write_parts<K: Kind>(narrow: &Narrow<K>, value: &K, buf: &mut [u8]) -> u16
+// Goes over the slots by itself: under `Parts` this walk takes up to half as much time again.
+fn write_parts<K: Kind>(_narrow: &Narrow<K>, value: &K, buf: &mut [u8]) -> u16
     requires { delta_length K.ops value.now ≤ length buf.old }
     ensures count { result ≡ length (parts K.ops value.now) }
     ensures few { result ≤ 1024 }
     ensures buffer { buf.new ≡ over buf.old 12 (list_bytes (parts K.ops value.now)) }
 {
-    // Counted by hand, since the count is what is answered.
-    let mut count = 0;
-    for part in narrow.parts(value) {
-        put(buf, 12 + PART * count as usize, &part_bytes(part));
-        count += 1;
+    let mut count: u16 = 0;
+    for slot in 0..K::width() as u16 {
+        let level = value.level(slot);
+        if level > 0 {
+            put_part(buf, 12 + PART * count as usize, Part { slot, level });
+            count += 1;
+        }
     }
     count
 }

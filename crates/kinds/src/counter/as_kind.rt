@@ -1,7 +1,8 @@
 // The counter as a kind: replica i counts at slot i, and the larger count wins.
-ghost use Rattle.std.specs.Prelude.{◌≡◌, ◌<◌};
+ghost use Rattle.std.specs.Prelude.{◌≡◌, ◌<◌, ◌≤◌};
 ghost use Rattle.lattice.specs.Simple.{simple_part};
 ghost use Rattle.kinds.specs.Counters.{counter_ops, counter_shape, total};
+ghost use Rattle.kinds.specs.Levels.{sum_below};
 ghost use Rattle.kinds.specs.Counts.{counter_laws};
 
 use super::Counter;
@@ -15,7 +16,15 @@ impl Counter {
     pub fn total(&self) -> u64
         ensures { result ≡ total self.now }
     {
-        self.levels.iter().map(|&n| u64::from(n)).sum()
+        self.total_below(8)
+    }
+
+    // The counts at the first slots. Of its own, so that the count of all is told by this contract alone.
+    fn total_below(&self, slots: usize) -> u64
+        requires { slots ≤ 8 }
+        ensures { result ≡ sum_below (counter_shape.level self.now) slots }
+    {
+        self.levels[..slots].iter().map(|&n| u64::from(n)).sum()
     }
 
     fn single(slot: u8, level: u32) -> Counter

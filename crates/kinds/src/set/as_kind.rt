@@ -1,5 +1,6 @@
 // The set as a kind: a slot of level 1 for each member, joined by union.
-ghost use Rattle.std.specs.Prelude.{◌≡◌};
+ghost use Rattle.std.specs.Prelude.{◌≡◌, ◌*◌, ◌≤◌};
+ghost use Rattle.kinds.specs.Levels.{sum_below};
 ghost use Rattle.kinds.specs.Sets.{count, has, set_ops, set_shape};
 ghost use Rattle.lattice.specs.Simple.{simple_part};
 ghost use Rattle.kinds.specs.Members.{set_laws};
@@ -31,7 +32,18 @@ impl Set {
     pub fn count(&self) -> u32
         ensures { result ≡ count self.now }
     {
-        self.words.iter().map(|word| word.count_ones()).sum()
+        self.count_in(4)
+    }
+
+    // The members in the first words. Of its own, so that the count of all is told by this contract alone.
+    fn count_in(&self, words: usize) -> u32
+        requires { words ≤ 4 }
+        ensures { result ≡ sum_below (set_shape.level self.now) (64 * words) }
+    {
+        self.words[..words]
+            .iter()
+            .map(|word| word.count_ones())
+            .sum()
     }
 }
 

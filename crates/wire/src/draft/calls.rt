@@ -7,7 +7,7 @@ ghost use Rattle.wire.specs.declared.datagram.Sort.TheVariants.{Delta, Ack};
 ghost use Rattle.wire.specs.Drafts.{adding, checking, follows_on, longer, longer_bytes, of_delta, sealed_length, so_far, takes};
 ghost use Rattle.wire.specs.Faults.{numbered};
 
-use crate::bytes::{part_bytes, put, put_head};
+use crate::bytes::{put_head, put_part};
 use crate::datagram::{Datagram, Header, Sort};
 use crate::draft::{Draft, Sealed};
 use crate::fault::{WireFault, check_width};
@@ -75,7 +75,7 @@ impl Draft {
             return Err(WireFault::Body);
         }
         let more = count + 1;
-        put(buf, end, &part_bytes(part));
+        put_part(buf, end, part);
         put_head(buf, header, more);
         self.count = more;
         Ok(())

@@ -1,49 +1,65 @@
-use Rattle.std.proofs.Common.{◌+◌, [], ◌∷◌, ◌++◌, length, refl, sym, ap, ◌∙◌, arith}
+use Rattle.std.proofs.Common.{◌≡◌, ℕ, ◌+◌, List, [], ◌∷◌, ◌++◌, length, refl, sym, ap, ◌∙◌, arith}
 use Rattle.std.proofs.lemmas.List.{length_push}
-use Rattle.lattice.specs.Walks.{to_come}
-use Rattle.lattice.proofs.Parts.{below_length, walk_length, walk_on, walk_over}
-use Rattle.wire.specs.Datagrams.{list_bytes}
+use Rattle.wire.specs.Datagrams.{list_bytes, part_bytes}
+use Rattle.wire.specs.Bytes.{over}
+use Rattle.lattice.specs.Ops.{parts_below}
+use Rattle.lattice.specs.declared.part.Part.{Part}
 use Rattle.wire.proofs.Over.{over_none, part_written}
+use Rattle.lattice.proofs.Parts.{below_none, below_one, below_room}
 use Rattle.wire.proofs.write.write_parts.Goals as goal
+use Rattle.wire.proofs.write.write_parts.Goals.{then-level-gt0, else-level-gt0}
 
-pub loop-part-init : goal.loop-part-init
-unfolding list_bytes
-loop-part-init g c = (refl, refl, over_none c.args.buf.now 12)
+pub loop-slot-init : goal.loop-slot-init
+unfolding parts_below list_bytes
+loop-slot-init g c = (omega arith, omega arith, over_none c.args.buf.now 12)
 
-pub overflow_add-count-in-loop-part : goal.overflow_add-count-in-loop-part
-overflow_add-count-in-loop-part g c =
+pub put_part-requires : goal.put_part-requires
+put_part-requires g c =
     let o = g.K.Kind.ops in
-    let i = c.loop-part.invariant in
+    let v = c.args.value.now in
+    let s = c.loop-slot.slot in
+    let l = c.level-level.result in
+    let more = ap length (below_one o v s l c.level-level.ensures c.if-level-gt0.true) ∙ length_push (parts_below o v s) (record { slot = s; level = l }) in
     omega (
       arith,
-      i.1,
-      walk_length c.loop-part.yielded c.in-Some.part (to_come o c.loop-part.part-iterator) (to_come o c.next.new.self) (to_come o c.into_iter-part-iterator.result) i.0 c.in-Some.ensures.steps,
-      ap length (ap (to_come o) c.into_iter-part-iterator.ensures.into_iter_gives ∙ c.parts-part-items.ensures),
-      below_length o c.args.value.now o.width,
-      c.args.narrow.now.fits,
+      c.loop-slot.invariant.1,
+      c.loop-slot.auto.buf,
+      c.requires,
+      below_room o v (s + 1) (omega (arith, c.loop-slot-test.true, c.width-slot-end.ensures)),
     )
 
-pub loop-part-preserved : goal.loop-part-preserved
-loop-part-preserved g c =
+pub loop-slot-preserved : goal.loop-slot-preserved
+loop-slot-preserved g c =
     let o = g.K.Kind.ops in
-    let i = c.loop-part.invariant in
-    let p = c.in-Some.part in
-    let seen = c.loop-part.yielded in (
-      walk_on seen p (to_come o c.loop-part.part-iterator) (to_come o c.next.new.self) (to_come o c.into_iter-part-iterator.result) i.0 c.in-Some.ensures.steps,
-      ap (λ k. k + 1) i.1 ∙ sym (length_push seen p),
-      part_written c.args.buf.now c.loop-part.buf c.put.new.buf seen (seen ++ p ∷ []) c.loop-part.count p.slot p.level c.part_bytes.result
-          (omega (arith, c.requires)) i.1 i.2 c.part_bytes.ensures c.put.ensures refl,
-    )
+    let v = c.args.value.now in
+    let s = c.loop-slot.slot in
+    let l = c.level-level.result in
+    let ps = parts_below o v s in
+    let qs = parts_below o v (s + 1) in
+    elim c.if-level-gt0.branch [
+      | then-level-gt0 w ↦
+          let e : qs ≡ ps ++ record { slot = s; level = l } ∷ [] = below_one o v s l c.level-level.ensures w.if-level-gt0.true in (
+            omega (arith, w.count-is, c.loop-slot.invariant.0),
+            w.count-is ∙ ap (λ (k : ℕ). k + 1) c.loop-slot.invariant.1 ∙ sym (ap length e ∙ length_push ps (record { slot = s; level = l })),
+            part_written c.args.buf.now c.loop-slot.buf c.if-level-gt0.buf ps qs c.loop-slot.count s l (part_bytes s l)
+                (omega (arith, c.requires)) c.loop-slot.invariant.1 c.loop-slot.invariant.2 refl (w.buf-is ∙ w.put_part.ensures) e,
+          )
+      | else-level-gt0 w ↦
+          let e : qs ≡ ps = below_none o v s l c.level-level.ensures w.if-level-gt0.false in (
+            omega (arith, w.count-is, c.loop-slot.invariant.0),
+            w.count-is ∙ c.loop-slot.invariant.1 ∙ sym (ap length e),
+            w.buf-is ∙ c.loop-slot.invariant.2 ∙ ap (λ (rs : List Part). over c.args.buf.now 12 (list_bytes rs)) (sym e),
+          )
+    ]
 
-pub returns-clause-few : goal.returns-clause-few
-returns-clause-few g c =
+pub returns : goal.returns
+returns g c =
     let o = g.K.Kind.ops in
-    let i = c.loop-part.invariant in
-    omega (
-      arith,
-      i.1,
-      ap length (walk_over c.loop-part.yielded (to_come o c.loop-part.part-iterator) (to_come o c.into_iter-part-iterator.result) i.0 c.in-None.ensures.steps.0
-          ∙ ap (to_come o) c.into_iter-part-iterator.ensures.into_iter_gives ∙ c.parts-part-items.ensures),
-      below_length o c.args.value.now o.width,
-      c.args.narrow.now.fits,
-    )
+    let v = c.args.value.now in
+    let e : c.loop-slot.slot ≡ o.width =
+    omega (arith, c.loop-slot-test.false, c.loop-slot.auto.slot-end, c.width-slot-end.ensures, c.args._narrow.now.fits) in
+    record {
+      count = c.loop-slot.invariant.1 ∙ ap (λ (n : ℕ). length (parts_below o v n)) e;
+      few = omega (arith, c.loop-slot.invariant.0, c.args._narrow.now.fits);
+      buffer = c.loop-slot.invariant.2 ∙ ap (λ (n : ℕ). over c.args.buf.now 12 (list_bytes (parts_below o v n))) e;
+    }

@@ -1,8 +1,8 @@
-use Rattle.std.proofs.Common.{◌≡◌, ◌+◌, ◌-◌, ◌*◌, List, [], ◌∷◌, ◌++◌, take, ap, ◌∙◌, arith}
+use Rattle.std.proofs.Common.{◌≡◌, ◌+◌, ◌-◌, ◌*◌, List, [], ◌∷◌, ◌++◌, take, refl, ap, ◌∙◌, arith}
 use Rattle.lattice.specs.Ops.{parts}
 use Rattle.lattice.specs.declared.part.Part.{Part}
 use Rattle.wire.specs.Bytes.{placed}
-use Rattle.wire.specs.Datagrams.{delta_bytes, parts_in}
+use Rattle.wire.specs.Datagrams.{delta_bytes, part_bytes, parts_in}
 use Rattle.wire.proofs.Adding.{few, front_is, standing, written_is}
 use Rattle.wire.proofs.Over.{add_put}
 use Rattle.wire.proofs.draft.Draft.grow.Goals as goal
@@ -37,6 +37,6 @@ returns-clause-buffer g c =
     let e : f ≡ take (12 + 10 * d.count) b = front_is b (12 + 10 * d.count) in
     let w = written_is o d.header f v c.delta_of.result c.in_ok-value.ensures.ok_part c.delta_of.ensures.written in
     let st = standing o d b f v c.args.narrow.now.fits c.requires e w.0 in
-    add_put b c.put.new.buf c.put_head.new.buf c.part_bytes.result d.header (parts o v) d.count s l c.requires st.0 st.2
-    c.part_bytes.ensures c.put.ensures c.put_head.ensures.buffer
+    add_put b c.put_part.new.buf c.put_head.new.buf (part_bytes s l) d.header (parts o v) d.count s l c.requires st.0 st.2
+    refl c.put_part.ensures c.put_head.ensures.buffer
     ∙ ap (λ (ps : List Part). placed (delta_bytes d.header (ps ++ record { slot = s; level = l } ∷ [])) b) (w.1 ∙ ap parts_in e)
