@@ -19,7 +19,7 @@ impl Counter {
         self.total_below(8)
     }
 
-    // The counts at the first slots. Of its own, so that the count of all is told by this contract alone.
+    // The sum of the first slots. Apart from `total`, so that its written proof stands here and `total` is one call.
     fn total_below(&self, slots: usize) -> u64
         requires { slots ≤ 8 }
         ensures { result ≡ sum_below (counter_shape.level self.now) slots }

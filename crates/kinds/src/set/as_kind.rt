@@ -35,7 +35,7 @@ impl Set {
         self.count_in(4)
     }
 
-    // The members in the first words. Of its own, so that the count of all is told by this contract alone.
+    // The members in the first words. Apart from `count`, so that its written proof stands here and `count` is one call.
     fn count_in(&self, words: usize) -> u32
         requires { words ≤ 4 }
         ensures { result ≡ sum_below (set_shape.level self.now) (64 * words) }
